@@ -1,0 +1,4 @@
+pub mod Sums
+pub mod Counts
+pub mod Chains
+pub mod Floods
