@@ -2,3 +2,4 @@ pub mod Cases
 pub mod Numbers
 pub mod Parts
 pub mod Masks
+pub mod Sums

@@ -14,12 +14,14 @@ use native.Mathlib.Omega.{arith}
 use lib.ListN.{length}
 use lib.Dec.{eqb}
 use borrow.Author.Tests.{eqb-true, eq-eqb, ne-eqb}
+use Rattle.bits.specs.Sums.{over}
+use Rattle.bits.proofs.Sums.{over-ext, over-le, over-strict}
 use Rattle.bits.proofs.Cases.{and-l, and-r, and-both, by-or, or-r, is-false, clash}
 use Rattle.tree.specs.declared.Reach.{Reach}
 use Rattle.tree.specs.Tree.{Tree, agreed, Chain, OnTree, climbs, onTree, Rooted}
 use Rattle.tree.specs.Tree.Chain.{here, hop}
 use Rattle.tree.specs.Reach.{visit, reach, reached, one, count}
-use Rattle.tree.proofs.Sums.{over, over-ext, over-le, over-strict, length-count, one-le, one-mono}
+use Rattle.tree.proofs.Sums.{length-count, one-le, one-mono}
 use Rattle.tree.proofs.Counts.{reach-count}
 
 length-reached : (l : List Reach) → length (reached l) ≡ length l

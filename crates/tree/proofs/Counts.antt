@@ -9,11 +9,13 @@ use native.Mathlib.Nat.{zero-add}
 use native.Mathlib.Omega.{arith}
 use lib.Dec.{eqb}
 use borrow.Author.Tests.{eqb-true, eq-eqb, ne-eqb}
+use Rattle.bits.specs.Sums.{over}
+use Rattle.bits.proofs.Sums.{over-ext, over-zero, over-add}
 use Rattle.bits.proofs.Cases.{by-bool, by-eq, and-r, is-false}
 use Rattle.tree.specs.declared.Reach.{Reach}
 use Rattle.tree.specs.Tree.{Tree, agreed, climbs, Rooted}
 use Rattle.tree.specs.Reach.{picked, visits, visit, reached, one, count}
-use Rattle.tree.proofs.Sums.{gate, over, total, gate-zero, gate-one, gate-swap, gate-add, gate-gate, over-ext, over-zero, over-add, over-gate, over-one, total-picked, count-append}
+use Rattle.tree.proofs.Sums.{gate, total, gate-zero, gate-one, gate-swap, gate-add, gate-gate, over-gate, over-one, total-picked, count-append}
 
 -- the way up from x meets p so often, at its first d stations
 unfoldable pub hits : Tree → ℕ → ℕ → ℕ → ℕ

@@ -11,12 +11,14 @@ use native.Mathlib.Omega.{arith}
 use lib.ListN.{length}
 use lib.Dec.{eqb}
 use borrow.Author.Tests.{eqb-true, eq-eqb, ne-eqb}
+use Rattle.bits.specs.Sums.{over}
+use Rattle.bits.proofs.Sums.{over-ext, over-add, over-zero}
 use Rattle.bits.proofs.Cases.{by-bool, by-eq, is-false}
 use Rattle.tree.specs.Tree.{Tree, nil, agreed, Chain, OnTree, climbs, onTree, Rooted}
 use Rattle.tree.specs.Tree.Chain.{here, hop}
 use Rattle.tree.specs.Reach.{picked, visits, reach, one, count}
 use Rattle.tree.specs.Flood.{passesTo, Pass, flood, receivers}
-use Rattle.tree.proofs.Sums.{gate, over, total, gate-zero, gate-add, gate-if, gate-not, over-ext, over-add, over-one, over-zero, total-picked, count-append, length-count}
+use Rattle.tree.proofs.Sums.{gate, total, gate-zero, gate-add, gate-if, gate-not, over-one, total-picked, count-append, length-count}
 use Rattle.tree.proofs.Counts.{hits, agreed-parent, kids, root-hits}
 use Rattle.tree.proofs.Chains.{chain-low, chain-climbs, not-sooner, grows-by, chain-short, off-tree, visit-length}
 

@@ -1,4 +1,4 @@
--- Sums over a range of numbers, with a test in front of each term.
+-- Sums with a test in front of each term, and how often a number stands in a list.
 use mathlib.Core.Path.{_≡_, refl, sym, ap, _∙_}
 use mathlib.Core.List.{List, [], _∷_, _++_}
 use mathlib.Core.Bool.{Bool, true, false}
@@ -8,6 +8,8 @@ use native.Mathlib.Omega.{arith}
 use lib.ListN.{length}
 use lib.Dec.{eqb}
 use borrow.Author.Tests.{eq-eqb, ne-eqb}
+use Rattle.bits.specs.Sums.{over}
+use Rattle.bits.proofs.Sums.{over-ext, over-zero, over-add}
 use Rattle.bits.proofs.Cases.{by-eq, eqb-sym}
 use Rattle.tree.specs.Reach.{picked, keep, one, count}
 
@@ -15,11 +17,6 @@ use Rattle.tree.specs.Reach.{picked, keep, one, count}
 abbrev pub gate : Bool → ℕ → ℕ
 gate true n = n
 gate false n = 0
-
--- f j + .. + f (j + k - 1)
-unfoldable pub over : (ℕ → ℕ) → ℕ → ℕ → ℕ
-over f j zero = 0
-over f j (suc k) = f j + over f (suc j) k
 
 -- over the numbers of a list
 unfoldable pub total : (ℕ → ℕ) → List ℕ → ℕ
@@ -66,22 +63,7 @@ pub one-mono : (a b : Bool) → (a ≡ true → b ≡ true) → one a ≤ one b
 one-mono true b h = rw (h refl) (omega arith)
 one-mono false b h = omega arith
 
--- ---- sums
-pub over-ext : (f g : ℕ → ℕ) → ((i : ℕ) → f i ≡ g i) → (j k : ℕ) → over f j k ≡ over g j k
-unfolding over
-over-ext f g e j zero = refl
-over-ext f g e j (suc k) = rw (e j, over-ext f g e (suc j) k)
-
-pub over-zero : (f : ℕ → ℕ) → ((i : ℕ) → f i ≡ 0) → (j k : ℕ) → over f j k ≡ 0
-unfolding over
-over-zero f e j zero = refl
-over-zero f e j (suc k) = rw (e j, over-zero f e (suc j) k)
-
-pub over-add : (f g : ℕ → ℕ) (j k : ℕ) → over (λ i. f i + g i) j k ≡ over f j k + over g j k
-unfolding over
-over-add f g j zero = refl
-over-add f g j (suc k) = let h = over-add f g (suc j) k in omega arith
-
+-- ---- sums of gated terms
 pub over-gate : (b : Bool) (f : ℕ → ℕ) (j k : ℕ) → over (λ i. gate b (f i)) j k ≡ gate b (over f j k)
 over-gate true f j k = refl
 over-gate false f j k = over-zero (λ i. 0) (λ i. refl) j k
@@ -112,27 +94,6 @@ total-picked f a j (suc k) = at (a j) (total-picked f a (suc j) k)
         → total f (keep b j (picked a (suc j) k)) ≡ gate b (f j) + over (λ i. gate (a i) (f i)) (suc j) k
     at true h = ap (f j +_) h
     at false h = omega arith
-
--- ---- bounds
-pub over-le : (f : ℕ → ℕ) → ((i : ℕ) → f i ≤ 1) → (j k : ℕ) → over f j k ≤ k
-unfolding over
-over-le f h j zero = omega arith
-over-le f h j (suc k) = let a = over-le f h (suc j) k in omega (arith, h j)
-
-over-mono : (f g : ℕ → ℕ) → ((i : ℕ) → f i ≤ g i) → (j k : ℕ) → over f j k ≤ over g j k
-unfolding over
-over-mono f g h j zero = omega arith
-over-mono f g h j (suc k) = let a = over-mono f g h (suc j) k in omega (arith, h j)
-
-pub over-strict : (f g : ℕ → ℕ) → ((i : ℕ) → f i ≤ g i) → (x : ℕ) → f x < g x → (j k : ℕ) → j ≤ x → x < j + k → over f j k < over g j k
-unfolding over
-over-strict f g h x lt j zero l r = absurd (omega arith)
-over-strict f g h x lt j (suc k) l r = at (over-strict f g h x lt (suc j) k)
-  where
-    at : (suc j ≤ x → x < suc j + k → over f (suc j) k < over g (suc j) k) → f j + over f (suc j) k < g j + over g (suc j) k
-    at more = by-eq j x
-        (λ e. let here : f j < g j = rw e lt in omega (arith, over-mono f g h (suc j) k))
-        (λ n. let rest = more (omega arith) (omega arith) in omega (arith, h j))
 
 -- ---- how often a number stands in a list
 pub count-append : (x : ℕ) (l m : List ℕ) → count x (l ++ m) ≡ count x l + count x m

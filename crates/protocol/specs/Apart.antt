@@ -1,0 +1,29 @@
+-- What a step of one group leaves alone.
+use mathlib.Core.Path.{_≡_}
+use mathlib.Core.Bool.{cond}
+use mathlib.Core.List.{List, [], _∷_}
+use Prim.Native.Nat.{ℕ}
+use lib.Dec.{eqb}
+use lib.ListN.{getD}
+use Rattle.protocol.specs.declared.Message.{Message}
+use Rattle.protocol.specs.Net.{Net, NetOf}
+use Rattle.protocol.specs.Rules.{noMessage, oldest}
+
+-- the messages of group o, in their order
+unfoldable pub only : {M : Type 0} → (M → ℕ) → ℕ → List M → List M
+only group o [] = []
+only group o (m ∷ l) = cond (eqb (group m) o) (m ∷ only group o l) (only group o l)
+
+abbrev pub groupIn : Message → ℕ
+groupIn m = m .group
+
+-- from net N to net N′ no entry and no message of group o has changed, and its messages stand in the same order in every channel
+pub record Untouched {E M : Type 0} (group : M → ℕ) (o : ℕ) (N N′ : NetOf E M) : Type 0 where
+  pub entries : (p : ℕ) → N′ .entry o p ≡ N .entry o p
+  pub messages : (s d : ℕ) → only group o (N′ .channel s d) ≡ only group o (N .channel s d)
+
+-- the group of a step: its first operand, but "in 4 and 5 the message names it". (9 "names no group")
+unfoldable pub groupOf : Net → ℕ → ℕ → ℕ → ℕ → ℕ
+groupOf N k a b c =
+    cond (eqb k 4) (oldest (N .channel) a b .group)
+    (cond (eqb k 5) (getD (N .channel a b) c noMessage .group) a)
