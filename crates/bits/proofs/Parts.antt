@@ -87,9 +87,16 @@ numberAt-add v w l i =
     ap (onto 0) (part-add v w l i) ∙ onto-append 0 (part v l i) (part w l (i + v)) ∙ onto-split (onto 0 (part v l i)) (part w l (i + v))
     ∙ ap (λ (n : ℕ). onto 0 (part v l i) * 256 ^ n + onto 0 (part w l (i + v))) (length-part w l (i + v))
 
--- ---- a part that was lent and comes back: what was done to the part, said of the whole
+-- ---- a part that is lent, `&s[a..a + k]`, and the list once ys comes back in its place
+abbrev pub lent : ℕ → ℕ → List ℕ → List ℕ
+lent a k xs = take k (drop a xs)
+
+abbrev pub back : ℕ → ℕ → List ℕ → List ℕ → List ℕ
+back a k xs ys = take a xs ++ (ys ++ drop k (drop a xs))
+
+-- what was done to the part, said of the whole
 pub lent-back : (a k : ℕ) (xs : List ℕ) (b : ℕ) (vs : List ℕ) → b + length vs ≤ k
-    → take a xs ++ (splice (take k (drop a xs)) b vs ++ drop k (drop a xs)) ≡ splice xs (a + b) vs
+    → back a k xs (splice (lent a k xs) b vs) ≡ splice xs (a + b) vs
 unfolding splice
 lent-back a k xs b [] h = ap (λ (r : List ℕ). take a xs ++ r) (take-append-drop k (drop a xs)) ∙ take-append-drop a xs
 lent-back a k xs b (v ∷ vs) h =
@@ -134,13 +141,13 @@ part-all l =
     (λ i h. let h′ : i < length l = rw length-part at h in getD-part (length l) l 0 i h′ ∙ ap (λ (n : ℕ). getD l n 0) (zero-add i))
 
 -- ---- a part that is lent, and one that comes back whole
-pub part-lent : (w : ℕ) (l : List ℕ) (i : ℕ) → i + w ≤ length l → take w (drop i l) ≡ part w l i
+pub part-lent : (w : ℕ) (l : List ℕ) (i : ℕ) → i + w ≤ length l → lent i w l ≡ part w l i
 part-lent w l i h =
     let n : length (take w (drop i l)) ≡ w = length-take-le w (drop i l) (simp length-drop (omega arith)) in
     ext-getD 0 _ _ (n ∙ sym (length-part w l i))
     (λ k j. let j′ : k < w = rw n at j in getD-take w (drop i l) k 0 j′ ∙ getD-drop i l k 0 ∙ sym (getD-part w l i k j′))
 
-pub put-whole : (a k : ℕ) (xs ys : List ℕ) → length ys ≡ k → a + k ≤ length xs → take a xs ++ (ys ++ drop k (drop a xs)) ≡ splice xs a ys
+pub put-whole : (a k : ℕ) (xs ys : List ℕ) → length ys ≡ k → a + k ≤ length xs → back a k xs ys ≡ splice xs a ys
 unfolding splice
 put-whole a k xs ys n h =
     let e : drop k (drop a xs) ≡ drop (a + length ys) xs = drop-drop k a xs ∙ ap (λ (m : ℕ). drop (a + m) xs) (sym n) in

@@ -1,0 +1,3 @@
+pub mod Moved
+pub mod Slots
+pub mod Messages

@@ -1,0 +1,3 @@
+-- A channel's bytes.
+pub mod Slots
+pub mod Messages

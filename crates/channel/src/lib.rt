@@ -1,0 +1,119 @@
+// A channel's bytes: a count, and then the messages, oldest first.
+use protocol::Message;
+ghost use mathlib.Core.Path.{_≡_};
+ghost use mathlib.Core.List.{List, [], _∷_, _++_};
+ghost use Prim.Native.Nat.{_≤_, _<_};
+ghost use lib.ListN.{length, getD};
+ghost use Rattle.protocol.specs.Net.{capacity, removeAt};
+ghost use Rattle.protocol.specs.Entries.{isOf, countOf};
+ghost use Rattle.protocol.specs.Rules.{noMessage};
+ghost use Rattle.channel.specs.Slots.{movedUp};
+ghost use Rattle.channel.specs.Messages.{messageSize, messageOf, messageBytes, messagesOf, channelBytes, Held};
+
+// How many bytes a message has: `messageSize` of specs/Messages.antt.
+const SIZE: usize = 7;
+
+// Moves every byte w to the left; zeros come in at the end.
+fn move_up(s: &mut [u8], w: usize)
+    requires { ⌜ w ≤ length (now s) ⌝ }
+    ensures { λ _. ⌜ now (s .exit) ≡ movedUp w (now (s .entry)) ⌝ }
+{
+    let n = s.len();
+    let mut j = 0;
+    while j < n {
+        if j < n - w {
+            s[j] = s[j + w];
+        } else {
+            s[j] = 0;
+        }
+        j += 1;
+    }
+}
+
+// How many messages the channel holds.
+pub fn count(ch: &[u8]) -> u8
+    requires { ⌜ Held (now ch) ⌝ }
+    ensures { λ r. ⌜ r ≡ length (messagesOf (now (ch .entry))) ⌝ }
+{
+    ch[0]
+}
+
+// Removes the i-th message: the later ones present move up, and the freed slot is cleared.
+pub fn remove_at(ch: &mut [u8], i: usize)
+    requires { ⌜ Held (now ch) ⌝ }
+    requires { ⌜ i < length (messagesOf (now ch)) ⌝ }
+    ensures { λ _. ⌜ now (ch .exit) ≡ channelBytes (removeAt i (messagesOf (now (ch .entry)))) ⌝ }
+{
+    let n = ch[0];
+    let at = 1 + i * SIZE;
+    let end = 1 + (n as usize) * SIZE;
+    move_up(&mut ch[at..end], SIZE);
+    ch[0] = n - 1;
+}
+
+fn put_message(s: &mut [u8], m: Message)
+    requires { ⌜ length (now s) ≡ messageSize ⌝ }
+    ensures { λ _. ⌜ now (s .exit) ≡ messageBytes m ⌝ }
+{
+    s[0] = m.kind;
+    s[1] = m.group;
+    s[2] = m.connected;
+    bits::number::put32(s, 3, m.clock);
+}
+
+fn get_message(s: &[u8]) -> Message
+    requires { ⌜ length (now s) ≡ messageSize ⌝ }
+    ensures { λ r. ⌜ r ≡ messageOf (now (s .entry)) ⌝ }
+{
+    Message {
+        kind: s[0],
+        group: s[1],
+        connected: s[2],
+        clock: bits::number::get32(s, 3),
+    }
+}
+
+// A message goes out: it comes last.
+pub fn push(ch: &mut [u8], m: Message)
+    requires { ⌜ Held (now ch) ⌝ }
+    requires { ⌜ length (messagesOf (now ch)) < capacity ⌝ }
+    ensures { λ _. ⌜ now (ch .exit) ≡ channelBytes (messagesOf (now (ch .entry)) ++ (m ∷ [])) ⌝ }
+{
+    let n = ch[0];
+    let at = 1 + (n as usize) * SIZE;
+    put_message(&mut ch[at..at + SIZE], m);
+    ch[0] = n + 1;
+}
+
+// The i-th message, from the oldest.
+pub fn message_at(ch: &[u8], i: usize) -> Message
+    requires { ⌜ Held (now ch) ⌝ }
+    requires { ⌜ i < length (messagesOf (now ch)) ⌝ }
+    ensures { λ r. ⌜ r ≡ getD (messagesOf (now (ch .entry))) i noMessage ⌝ }
+{
+    let at = 1 + i * SIZE;
+    get_message(&ch[at..at + SIZE])
+}
+
+fn is_of(m: Message, kind: u8, group: u8) -> bool
+    ensures { λ r. ⌜ r ≡ isOf kind group m ⌝ }
+{
+    (m.kind == kind) & (m.group == group)
+}
+
+// How many messages of this kind and group the channel holds.
+pub fn count_of(ch: &[u8], kind: u8, group: u8) -> u8
+    requires { ⌜ Held (now ch) ⌝ }
+    ensures { λ r. ⌜ (r ≡ countOf kind group (messagesOf (now (ch .entry)))) × (r ≤ capacity) ⌝ }
+{
+    let n = ch[0] as usize;
+    let mut found: u8 = 0;
+    let mut i = 0;
+    while i < n {
+        if is_of(message_at(ch, i), kind, group) {
+            found += 1;
+        }
+        i += 1;
+    }
+    found
+}
