@@ -1,13 +1,22 @@
 // Masks of 16 bits: one bit a station.
+use crate::number::wide;
 ghost use mathlib.Core.Path.{_≡_};
 ghost use Prim.Native.Nat.{_≤_, _<_};
 ghost use Rattle.bits.specs.Masks as mask;
 
-// Whether j is in.
+// Whether j, one of the sixteen, is in.
+pub fn bit(m: u16, j: usize) -> bool
+    requires { ⌜ j < 16 ⌝ }
+    ensures { λ r. ⌜ r ≡ mask.has m j ⌝ }
+{
+    (m >> j) % 2 == 1
+}
+
+// Whether j is in, for any j.
 pub fn has(m: u16, j: u8) -> bool
     ensures { λ r. ⌜ r ≡ mask.has m j ⌝ }
 {
-    if j < 16 { (m >> j) % 2 == 1 } else { false }
+    if j < 16 { bit(m, wide(j)) } else { false }
 }
 
 // With j.
@@ -27,7 +36,7 @@ pub fn without(m: u16, j: u8) -> u16
 }
 
 // Whether nothing is in but numbers below n.
-pub fn below(m: u16, n: u8) -> bool
+pub fn below(m: u16, n: usize) -> bool
     requires { ⌜ n ≤ 16 ⌝ }
     ensures { λ r. ⌜ r ≡ mask.below n m ⌝ }
 {

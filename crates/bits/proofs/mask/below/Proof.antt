@@ -4,6 +4,9 @@ use borrow.Author.Needs.{needs}
 use Rattle.bits.proofs.mask.below.Statement.{statement}
 use Rattle.bits.proofs.mask.below.Tie as tie
 
+cast-result : tie.Need-cast-result
+cast-result c = search needs
+
 shr-result : tie.Need-shr-result
 shr-result c = search needs
 
@@ -12,4 +15,4 @@ unfolding mask.below
 returns c = refl
 
 pub below-spec : {M : Type 1} → statement M
-below-spec = tie.close (tie.spec shr-result returns)
+below-spec = tie.close (tie.spec cast-result shr-result returns)

@@ -1,0 +1,34 @@
+-- Bounded tests: a test at each number below a bound, stretches of bytes, and a table of which the first records are used.
+use mathlib.Core.Bool.{Bool, true, _&&_, _||_, not}
+use mathlib.Core.List.{List}
+use Prim.Native.Nat.{ℕ, zero, suc, _+_, _*_, _-_}
+use lib.Dec.{eqb, ltb}
+use lib.ListN.{length}
+use Rattle.layout.specs.Layout.{byte}
+
+-- P passes at every number below n
+unfoldable pub allBelow : ℕ → (ℕ → Bool) → Bool
+allBelow zero P = true
+allBelow (suc n) P = allBelow n P && P n
+
+infixr 25 _implies_
+-- where a passes, b does
+abbrev pub _implies_ : Bool → Bool → Bool
+a implies b = not a || b
+
+-- every number of the list is a byte
+unfoldable pub allBytes : List ℕ → Bool
+allBytes l = allBelow (length l) (λ i. ltb (byte l i) 256)
+
+-- the bytes from a up to e are zero
+unfoldable pub zeros : List ℕ → ℕ → ℕ → Bool
+zeros l a e = allBelow (e - a) (λ i. eqb (byte l (a + i)) 0)
+
+-- the n bytes from a and from b are the same
+unfoldable pub same : List ℕ → ℕ → ℕ → ℕ → Bool
+same l a b n = allBelow n (λ i. eqb (byte l (a + i)) (byte l (b + i)))
+
+-- a table at `at` of `most` records of `size` bytes, of which the first n are used: P passes at each used one, and "every byte of
+-- an unused" one "is zero"
+unfoldable pub table : List ℕ → ℕ → ℕ → ℕ → ℕ → (ℕ → Bool) → Bool
+table l at size most n P = allBelow n P && zeros l (at + size * n) (at + size * most)

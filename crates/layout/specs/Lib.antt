@@ -1,0 +1,3 @@
+-- Where each thing stands among the bytes of a net, and tests over stretches of bytes.
+pub mod Layout
+pub mod Bounded

@@ -1,0 +1,30 @@
+// Tests over a stretch of bytes. Each goes on to its end, which lets the compiler take many bytes at a time.
+ghost use mathlib.Core.Path.{_≡_};
+ghost use Prim.Native.Nat.{_+_, _≤_};
+ghost use lib.ListN.{length};
+ghost use Rattle.layout.specs.Bounded.{zeros, same};
+
+// Whether the bytes from a up to e are zero.
+pub fn all_zero(s: &[u8], a: usize, e: usize) -> bool
+    requires { ⌜ (a ≤ e) × (e ≤ length (now s)) ⌝ }
+    ensures { λ r. ⌜ r ≡ zeros (now (s .entry)) a e ⌝ }
+{
+    let n = e - a;
+    let mut ok = true;
+    for i in 0..n {
+        ok = ok & (s[a + i] == 0);
+    }
+    ok
+}
+
+// Whether the n bytes from a and from b are the same.
+pub fn all_same(s: &[u8], a: usize, b: usize, n: usize) -> bool
+    requires { ⌜ (a + n ≤ length (now s)) × (b + n ≤ length (now s)) ⌝ }
+    ensures { λ r. ⌜ r ≡ same (now (s .entry)) a b n ⌝ }
+{
+    let mut ok = true;
+    for i in 0..n {
+        ok = ok & (s[a + i] == s[b + i]);
+    }
+    ok
+}

@@ -1,0 +1,86 @@
+-- What follows from a well-shaped plan, read off its bytes. (A net of size `size` has these too.)
+use mathlib.Core.Path.{_≡_}
+use mathlib.Core.Bool.{Bool, true, false}
+use mathlib.Core.List.{List}
+use Prim.Native.Nat.{ℕ, _+_, _≤_, _<_}
+use native.Mathlib.Omega.{arith}
+use lib.ListN.{length}
+use borrow.Author.Tests.{not-true, eq-eqb}
+use Rattle.bits.specs.Masks.{has}
+use Rattle.bits.specs.Parts.{numberAt}
+use Rattle.bits.proofs.Masks.{below-has}
+use Rattle.layout.specs.Layout.{byte, planLength, stations, groups, groupAt, nameLength, root, neighbours}
+use Rattle.layout.proofs.Bounded.{bytes-at, bytes-of, table-at, zeros-at}
+use Rattle.layout.proofs.Facts.{facts}
+use Rattle.plan.specs.Planned.{headed, groupShaped, sameNames, newName, distinct, answered, cabled, planned, planShaped}
+
+pub headed-few : (l : List ℕ) (size : ℕ) → headed l size ≡ true → (stations l ≤ 16) × (groups l ≤ 4)
+unfolding headed
+headed-few l size e = let h = simp facts at e in omega arith
+
+module _ (l : List ℕ) (size : ℕ) (e : planned l size ≡ true) where
+  heads : headed l size ≡ true
+  unfolding planned
+  heads = (simp facts at e) .0 .0 .0
+
+  pub header-is : (numberAt 4 l 0 ≡ size) × (byte l 4 ≡ 1) × (byte l 7 ≡ 0)
+  unfolding headed
+  header-is = let f = simp facts at heads in (f .0 .0 .0 .0, f .0 .0 .0 .1, f .1)
+
+  pub counts : (1 ≤ stations l) × (stations l ≤ 16) × (1 ≤ groups l) × (groups l ≤ 4)
+  unfolding headed
+  counts = let f = simp facts at heads in omega arith
+
+  group-at : (g : ℕ) → g < groups l → groupShaped l (stations l) g ≡ true
+  unfolding planned
+  group-at g h = table-at l _ _ _ _ _ ((simp facts at e) .0 .0 .1) g h
+
+  pub name-at : (g : ℕ) → g < groups l → (1 ≤ nameLength l g) × (nameLength l g ≤ 16)
+  unfolding groupShaped
+  name-at g h = let f = simp facts at (group-at g h) in omega arith
+
+  pub padding-at : (g : ℕ) → g < groups l → (i : ℕ) → groupAt g + 1 + nameLength l g ≤ i → i < groupAt g + 17 → byte l i ≡ 0
+  unfolding groupShaped
+  padding-at g h = let f = simp facts at (group-at g h) in zeros-at l _ _ (f .0 .1)
+
+  pub root-at : (g : ℕ) → g < groups l → root l g < stations l
+  unfolding groupShaped
+  root-at g h = let f = simp facts at (group-at g h) in omega arith
+
+  pub new-at : (a b : ℕ) → a < groups l → b < a → sameNames l a b ≡ false
+  unfolding planned distinct newName
+  new-at a b h k = not-true _ ((simp facts at e) .0 .1 a h b k)
+
+  cabled-at : (p : ℕ) → p < stations l → cabled l (stations l) p ≡ true
+  unfolding planned
+  cabled-at p h = table-at l _ _ _ _ _ ((simp facts at e) .1) p h
+
+  pub neighbour-below : (p j : ℕ) → p < stations l → has (neighbours l p) j ≡ true → j < stations l
+  unfolding cabled
+  neighbour-below p j h t = below-has (stations l) (neighbours l p) j ((simp facts at (cabled-at p h)) .0 .0) t
+
+  pub no-loop : (p : ℕ) → p < stations l → has (neighbours l p) p ≡ false
+  unfolding cabled
+  no-loop p h = not-true _ ((simp facts at (cabled-at p h)) .0 .1)
+
+  pub answer-at : (p q : ℕ) → p < stations l → q < stations l → has (neighbours l p) q ≡ true → has (neighbours l q) p ≡ true
+  unfolding cabled answered
+  answer-at p q h k = (simp facts at (cabled-at p h)) .1 q k
+
+-- bytes of the right length whose header, groups and cables pass are a well-shaped plan
+pub plan-is : (l : List ℕ) (r : Bool) → length l ≡ planLength → ((i : ℕ) → byte l i < 256) → r ≡ planned l planLength → r ≡ planShaped l
+unfolding planShaped
+plan-is l r n h e = rw (eq-eqb _ _ n, bytes-of l h) e
+
+module _ (l : List ℕ) (e : planShaped l ≡ true) where
+  pub plan-long : length l ≡ planLength
+  unfolding planShaped
+  plan-long = (simp facts at e) .0 .0
+
+  pub plan-small : (i : ℕ) → byte l i < 256
+  unfolding planShaped
+  plan-small = bytes-at l ((simp facts at e) .0 .1)
+
+  pub plan-passes : planned l planLength ≡ true
+  unfolding planShaped
+  plan-passes = (simp facts at e) .1

@@ -1,0 +1,2 @@
+-- A well-shaped plan, over its bytes.
+pub mod Planned

@@ -1,0 +1,54 @@
+-- "Well shaped", sentence by sentence of document 01: what a plan and a net have in common.
+use mathlib.Core.Bool.{Bool, _&&_, not}
+use mathlib.Core.List.{List}
+use Prim.Native.Nat.{ℕ, _+_}
+use lib.Dec.{ltb, leb, eqb}
+use lib.ListN.{length}
+use Rattle.bits.specs.Masks.{has, below}
+use Rattle.bits.specs.Parts.{numberAt}
+use Rattle.protocol.specs.Net.{mostStations, mostGroups, longestName}
+use Rattle.layout.specs.Layout.{byte, planLength, stations, groups, groupSize, groupAt, nameLength, root, neighbours}
+use Rattle.layout.specs.Bounded.{allBelow, allBytes, _implies_, zeros, same, table}
+
+abbrev pub between : ℕ → ℕ → ℕ → Bool
+between low high x = leb low x && leb x high
+
+-- "length, version and zero bytes as in the table; n and g in range". The length is that of the whole
+unfoldable pub headed : List ℕ → ℕ → Bool
+headed l size =
+    eqb (numberAt 4 l 0) size && eqb (byte l 4) 1 && between 1 mostStations (stations l) && between 1 mostGroups (groups l) && eqb (byte l 7) 0
+
+-- "name length 1 to 16, padding zero", "each root below n"
+unfoldable pub groupShaped : List ℕ → ℕ → ℕ → Bool
+groupShaped l n g =
+    leb (nameLength l g) longestName && leb 1 (nameLength l g)
+    && zeros l (groupAt g + 1 + nameLength l g) (groupAt g + 17) && ltb (root l g) n
+
+-- the names of two groups are the same: their length, and their 16 bytes, of which the padding is zero
+unfoldable pub sameNames : List ℕ → ℕ → ℕ → Bool
+sameNames l a b = same l (groupAt a) (groupAt b) 17
+
+-- group a has the name of no group before it
+unfoldable pub newName : List ℕ → ℕ → Bool
+newName l a = allBelow a (λ b. not (sameNames l a b))
+
+-- "names distinct (any byte values)"
+unfoldable pub distinct : List ℕ → ℕ → Bool
+distinct l g = allBelow g (newName l)
+
+-- if station p has q for a neighbour, q has p
+unfoldable pub answered : List ℕ → ℕ → ℕ → Bool
+answered l p q = has (neighbours l p) q implies has (neighbours l q) p
+
+-- "masks name stations below n; the neighbour relation is symmetric and no station neighbours itself"
+unfoldable pub cabled : List ℕ → ℕ → ℕ → Bool
+cabled l n p = below n (neighbours l p) && not (has (neighbours l p) p) && allBelow n (answered l p)
+
+-- the header, the groups and the cables, of a plan or a net of this size
+unfoldable pub planned : List ℕ → ℕ → Bool
+planned l size =
+    headed l size && table l 8 groupSize mostGroups (groups l) (groupShaped l (stations l)) && distinct l (groups l)
+    && table l 80 2 mostStations (stations l) (cabled l (stations l))
+
+unfoldable pub planShaped : List ℕ → Bool
+planShaped l = eqb (length l) planLength && allBytes l && planned l planLength

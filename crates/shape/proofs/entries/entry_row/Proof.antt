@@ -1,0 +1,77 @@
+use mathlib.Core.Path.{_≡_}
+use Prim.Native.Nat.{_≤_, _-_}
+use native.Mathlib.Omega.{arith}
+use Rattle.layout.specs.Bounded.{allBelow}
+use Rattle.layout.proofs.Bounded.{all-none, all-more, table-done}
+use Rattle.shape.specs.Shape.{entered}
+use Rattle.shape.proofs.entries.entry_row.Statement.{statement}
+use Rattle.shape.proofs.entries.entry_row.Tie as tie
+
+abbrev Inv-loop : tie.InvT-loop
+Inv-loop s n g ok₀ p₀ ok p = (p ≤ n) × (ok ≡ allBelow p (entered s g))
+
+abbrev μ-loop : tie.MeasureT-loop
+μ-loop s n g ok₀ p₀ ok p = n - p
+
+loop-holds : tie.Need-loop-holds Inv-loop μ-loop
+loop-holds c = (omega arith, all-none _)
+
+entry-shaped-requires : tie.Need-entry-shaped-requires Inv-loop μ-loop
+entry-shaped-requires c κs = omega arith
+
+add-p : tie.Need-add-p Inv-loop μ-loop
+add-p c = omega arith
+
+loop-less : tie.Need-loop-less Inv-loop μ-loop
+loop-less c = omega arith
+
+loop-again : tie.Need-loop-again Inv-loop μ-loop
+loop-again c = (omega arith, all-more _ (c .before .before .loop .inv .1) (c .entry-shaped .ensures))
+
+mul-all-zero : tie.Need-mul-all-zero Inv-loop μ-loop
+mul-all-zero c = omega arith
+
+add-all-zero : tie.Need-add-all-zero Inv-loop μ-loop
+add-all-zero c = omega arith
+
+mul-all-zero-2 : tie.Need-mul-all-zero-2 Inv-loop μ-loop
+mul-all-zero-2 c = omega arith
+
+add-all-zero-2 : tie.Need-add-all-zero-2 Inv-loop μ-loop
+add-all-zero-2 c = omega arith
+
+mul-all-zero-3 : tie.Need-mul-all-zero-3 Inv-loop μ-loop
+mul-all-zero-3 c = omega arith
+
+add-all-zero-3 : tie.Need-add-all-zero-3 Inv-loop μ-loop
+add-all-zero-3 c = omega arith
+
+add-all-zero-4 : tie.Need-add-all-zero-4 Inv-loop μ-loop
+add-all-zero-4 c = omega arith
+
+all-zero-requires : tie.Need-all-zero-requires Inv-loop μ-loop
+all-zero-requires c κs = omega arith
+
+returns : tie.Need-returns Inv-loop μ-loop
+returns c = table-done _ _ _ _ _ _ (c .before .before .loop .inv .0) (c .before .loop-test .left) (c .before .before .loop .inv .1) (c .all-zero .ensures)
+
+pub entry-row-spec : {M : Type 1} → statement M
+entry-row-spec =
+    tie.close
+    (tie.spec
+    Inv-loop
+    μ-loop
+    loop-holds
+    entry-shaped-requires
+    add-p
+    loop-less
+    loop-again
+    mul-all-zero
+    add-all-zero
+    mul-all-zero-2
+    add-all-zero-2
+    mul-all-zero-3
+    add-all-zero-3
+    add-all-zero-4
+    all-zero-requires
+    returns)

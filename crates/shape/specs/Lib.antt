@@ -1,0 +1,2 @@
+-- A well-shaped net, over its bytes.
+pub mod Shape
