@@ -154,7 +154,7 @@ pow-pos : (w : ℕ) → 0 < 2 ^ w
 pow-pos zero = omega arith
 pow-pos (suc w) = let h = pow-pos w in omega arith
 
-no-bits : (m : ℕ) → ((j : ℕ) → has m j ≡ false) → m ≡ 0
+pub no-bits : (m : ℕ) → ((j : ℕ) → has m j ≡ false) → m ≡ 0
 no-bits m h = has-ext m m 0 (below-pow m) (pow-pos m) (λ j _. h j ∙ sym (has-zero j))
   where
     below-pow : (w : ℕ) → w < 2 ^ w

@@ -1,13 +1,14 @@
 -- Laws of the bounded tests.
 --     all-none, all-more, all-done    a loop that joins a test at each number below a bound: where it begins, one turn more, its end
 --     all-at, all-of                  what such a test says, and when it passes
---     table-done, table-at, table-rest, table-of    the same of a table
+--     table-done, table-at, table-rest, table-of    the same of a table; grid-rest, grid-of of a table of tables
 use mathlib.Core.Path.{_≡_, refl, subst, ap, ap₂, _∙_}
 use mathlib.Core.List.{List}
+use mathlib.Core.Logic.{_⊎_, inl, inr, ⊎-elim}
 use mathlib.Core.Bool.{Bool, true, _&&_}
-use Prim.Native.Nat.{ℕ, zero, suc, _+_, _-_, _*_, _≤_, _<_}
+use Prim.Native.Nat.{ℕ, zero, suc, _+_, _-_, _*_, _/_, _%_, _≤_, _<_}
 use native.Mathlib.Numerals.{add-one}
-use native.Mathlib.Nat.{le-antisymm, add-sub-of-le}
+use native.Mathlib.Nat.{le-antisymm, add-sub-of-le, mul-suc, mul-comm, mul-le-mul-left, div-add-mod', div-lt-iff-lt-mul, mod-lt}
 use native.Mathlib.Omega.{arith}
 use lib.Dec.{eqb, ltb}
 use lib.ListN.{length, List·getD-eq-default}
@@ -87,3 +88,43 @@ module _ (l : List ℕ) (at size most n : ℕ) (P : ℕ → Bool) where
   pub table-of : ((k : ℕ) → k < n → P k ≡ true) → ((i : ℕ) → at + size * n ≤ i → i < at + size * most → byte l i ≡ 0) → table l at size most n P ≡ true
   unfolding table
   table-of f g = and-both (allBelow n P) _ (all-of P n f) (zeros-of l _ _ g)
+
+-- ---- a table whose records are tables: r is the width of a row of `cols` records of w bytes. A byte of a record that is not used
+pub grid-rest : (l : List ℕ) (at w cols r rows m n : ℕ) (P : ℕ → ℕ → Bool) → r ≡ w * cols
+    → table l at r rows m (λ i. table l (at + r * i) w cols n (P i)) ≡ true
+    → (i j x : ℕ) → i < rows → j < cols → x < w → (m ≤ i) ⊎ (n ≤ j) → byte l (at + r * i + w * j + x) ≡ 0
+grid-rest l at w cols r rows m n P e t i j x hi hj hx out =
+    let inside : w * suc j ≤ w * cols = mul-le-mul-left w hj in
+    let s : w * suc j ≡ w * j + w = mul-suc w j in
+    by-lt i m
+    (λ h. table-rest l (at + r * i) w cols n (P i) (table-at l at r rows m _ t i h) _
+    (⊎-elim (λ o. absurd (omega arith)) (λ o. let b : w * n ≤ w * j = mul-le-mul-left w o in omega arith) out) (omega arith))
+    (λ h. let a : r * m ≤ r * i = mul-le-mul-left r h in
+    let b : r * suc i ≤ r * rows = mul-le-mul-left r hi in
+    table-rest l at r rows m _ t _ (omega arith) (omega (arith, mul-suc r i)))
+
+-- and the other way: a table of tables passes where each used record does and every byte of the others is zero
+module _ (l : List ℕ) (at w cols r rows m n : ℕ) (P : ℕ → ℕ → Bool) (e : r ≡ w * cols) (wide : 0 < w) (some : 0 < r) (few : m ≤ rows)
+    (pass : (i j : ℕ) → i < m → j < n → P i j ≡ true)
+    (zero· : (i j x : ℕ) → i < rows → j < cols → x < w → (m ≤ i) ⊎ (n ≤ j) → byte l (at + r * i + w * j + x) ≡ 0) where
+  -- byte y of row i is byte x of record j
+  in-row : (i y : ℕ) → i < rows → y < r → (m ≤ i) ⊎ (w * n ≤ y) → byte l (at + r * i + y) ≡ 0
+  in-row i y hi hy o =
+      let parts : y / w * w + y % w ≡ y = div-add-mod' y w in
+      let here : at + r * i + y ≡ at + r * i + w * (y / w) + y % w = omega (arith, mul-comm w (y / w)) in
+      ap (byte l) here ∙ zero· i (y / w) (y % w) hi (div-lt-iff-lt-mul wide .1 (rw mul-comm (rw (← e) hy))) (mod-lt y wide)
+      (⊎-elim (λ a. inl a) (λ a. inr (by-lt (y / w) n
+      (λ b. absurd (let c = div-lt-iff-lt-mul wide .0 b in omega (arith, mul-comm w n))) (λ b. b))) o)
+
+  pub grid-of : table l at r rows m (λ i. table l (at + r * i) w cols n (P i)) ≡ true
+  grid-of = table-of l at r rows m _
+      (λ i hi. table-of l (at + r * i) w cols n (P i) (λ j. pass i j hi)
+      (λ k a b. let here : k ≡ at + r * i + (k - (at + r * i)) = omega arith in
+      ap (byte l) here ∙ in-row i (k - (at + r * i)) (omega arith) (omega arith) (inr (omega arith))))
+      (λ k a b.
+      let y = k - at in
+      let parts : (k - at) / r * r + (k - at) % r ≡ k - at = div-add-mod' (k - at) r in
+      let here : k ≡ at + r * ((k - at) / r) + (k - at) % r = omega (arith, mul-comm r ((k - at) / r)) in
+      ap (byte l) here ∙ in-row ((k - at) / r) ((k - at) % r)
+      (div-lt-iff-lt-mul some .1 (omega (arith, mul-comm r rows))) (mod-lt (k - at) some)
+      (inl (by-lt ((k - at) / r) m (λ c. absurd (let d = div-lt-iff-lt-mul some .0 c in omega (arith, mul-comm r m))) (λ c. c))))

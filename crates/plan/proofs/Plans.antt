@@ -9,8 +9,9 @@ use borrow.Author.Tests.{not-true, eq-eqb}
 use Rattle.bits.specs.Masks.{has}
 use Rattle.bits.specs.Parts.{numberAt}
 use Rattle.bits.proofs.Masks.{below-has}
-use Rattle.layout.specs.Layout.{byte, planLength, stations, groups, groupAt, nameLength, root, neighbours}
-use Rattle.layout.proofs.Bounded.{bytes-at, bytes-of, table-at, zeros-at}
+use Rattle.protocol.specs.Net.{mostStations, mostGroups}
+use Rattle.layout.specs.Layout.{byte, planLength, stations, groups, groupSize, groupAt, nameLength, root, maskAt, neighbours}
+use Rattle.layout.proofs.Bounded.{bytes-at, bytes-of, table-at, table-rest, zeros-at}
 use Rattle.layout.proofs.Facts.{facts}
 use Rattle.plan.specs.Planned.{headed, groupShaped, sameNames, newName, distinct, answered, cabled, planned, planShaped}
 
@@ -34,6 +35,14 @@ module _ (l : List ℕ) (size : ℕ) (e : planned l size ≡ true) where
   group-at : (g : ℕ) → g < groups l → groupShaped l (stations l) g ≡ true
   unfolding planned
   group-at g h = table-at l _ _ _ _ _ ((simp facts at e) .0 .0 .1) g h
+
+  pub groups-rest : (i : ℕ) → groupAt (groups l) ≤ i → i < 80 → byte l i ≡ 0
+  unfolding planned
+  groups-rest = table-rest l 8 groupSize mostGroups (groups l) _ ((simp facts at e) .0 .0 .1)
+
+  pub masks-rest : (i : ℕ) → maskAt (stations l) ≤ i → i < 112 → byte l i ≡ 0
+  unfolding planned
+  masks-rest = table-rest l 80 2 mostStations (stations l) _ ((simp facts at e) .1)
 
   pub name-at : (g : ℕ) → g < groups l → (1 ≤ nameLength l g) × (nameLength l g ≤ 16)
   unfolding groupShaped

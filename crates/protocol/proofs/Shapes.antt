@@ -28,7 +28,7 @@ use Rattle.protocol.proofs.Messages.{bit-le}
 use Rattle.protocol.proofs.Steps.{Passed, Owes, step-keeps}
 
 -- ---- a fresh net
-blank-good : (nb r p : ℕ) → GoodEntry nb r p blank
+pub blank-good : (nb r p : ℕ) → GoodEntry nb r p blank
 blank-good nb r p = record {
   parentNear = λ n. absurd (n refl);
   tentativeNear = λ n. absurd (n refl);

@@ -1,0 +1,9 @@
+pub mod Cells
+pub mod Holds
+pub mod Records
+pub mod Shown
+pub mod Seen
+pub mod Whole
+pub mod Back
+pub mod Passes
+pub mod Puts
