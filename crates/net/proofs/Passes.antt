@@ -27,7 +27,7 @@ use Rattle.protocol.specs.Rules.{noMessage}
 use Rattle.protocol.specs.Shaped.{All, none, both, GoodPlan, GoodMessage, Shaped}
 use Rattle.protocol.proofs.Maps.{All-at}
 use Rattle.channel.specs.Slots.{flat, laid}
-use Rattle.channel.specs.Messages.{messageOf, messageBytes, channelBytes}
+use Rattle.channel.specs.Messages.{messageSize, messageOf, messageBytes, channelBytes}
 use Rattle.channel.proofs.Messages.{nth-message, queue}
 use Rattle.layout.specs.Layout.{byte, netLength, stations, groups, groupSize, groupAt, nameLength, maskAt, neighbours, routeAt, entryAt, channelAt, messageAt}
 use Rattle.layout.specs.Bounded.{table}
@@ -197,7 +197,7 @@ module _ (N : Net) (H : Shaped N) where
   unfolding laid
   small-channel s d =
       both {x = length (map messageBytes (N .channel s d))} (omega (arith, H .channels s d .atMost, length-map (N .channel s d) messageBytes))
-      (small-append (small-messages few-groups (H .channels s d .each)) (small-zeros _))
+      (small-append (small-messages few-groups (H .channels s d .each)) (small-zeros ((capacity - length (map messageBytes (N .channel s d))) * messageSize)))
 
   all-Bytes : Bytes (bytesOf N)
   unfolding bytesOf
