@@ -1,0 +1,168 @@
+use mathlib.Core.Path.{_≡_, refl, sym, ap, subst, _∙_}
+use mathlib.Core.Bool.{true, not, _&&_}
+use Prim.Native.Nat.{ℕ, _<_}
+use native.Mathlib.Omega.{arith}
+use lib.Dec.{eqb}
+use borrow.Author.Tests.{not-true, not-false, ltb-true}
+use Rattle.bits.specs.Masks.{has}
+use Rattle.protocol.specs.declared.Entry.{Entry}
+use Rattle.protocol.specs.Net.{Net, setEntry, send}
+use Rattle.protocol.specs.Entries.{joins, asking}
+use Rattle.protocol.specs.Rules.{room?}
+use Rattle.protocol.specs.Rules as rule
+use Rattle.protocol.specs.Shaped.{Shaped}
+use Rattle.net.specs.View.{view}
+use Rattle.net.specs.Encode.{bytesOf}
+use Rattle.net.proofs.Seen.{seen}
+use Rattle.act.proofs.Ends.{ends-3, ends-4, ends-6, ends-0}
+use Rattle.act.proofs.InRange.{station-in}
+use Rattle.protocol.proofs.Shapes.{cable, ask-near, ask-entry}
+use Rattle.protocol.specs.Rules.{Rule}
+use borrow.Author.Needs.{needs}
+use Rattle.asks.proofs.ask.Statement.{statement}
+use Rattle.asks.proofs.ask.Tie as tie
+
+abbrev N : tie.Start → Net
+N s = view (s .args .net .now)
+
+abbrev R : tie.Start → Rule Net
+R s = rule.ask (N s) (s .args .g) (s .args .p) (s .args .c)
+
+H : (s : tie.Start) → Shaped (N s)
+H s = seen _ (s .pre .good)
+
+operands : (x : tie.Else1) → R (x .before .before .before .before) .operands ≡ true
+unfolding rule.ask
+operands x = sym (x .before .of-station .ensures) ∙ not-false _ (x .if1 .left)
+
+in-range : (x : tie.Else1) → (x .before .before .before .before .args .g < N (x .before .before .before .before) .groups) × (x .before .before .before .before .args .p < N (x .before .before .before .before) .stations)
+unfolding rule.ask
+in-range x = let a = x .before .before .before .before .args in station-in _ (a .g) (a .p) (eqb (a .c) 0) (operands x)
+
+route : (y : tie.After-route-of) → y .route-of .result ≡ N (y .before .before .before .before .before .before .before .before) .route (y .before .before .before .before .before .before .before .before .args .p) (N (y .before .before .before .before .before .before .before .before) .root (y .before .before .before .before .before .before .before .before .args .g))
+route y = y .route-of .ensures ∙ ap (N (y .before .before .before .before .before .before .before .before) .route (y .before .before .before .before .before .before .before .before .args .p)) (y .before .before .root-of .ensures .0)
+
+asked : (y : tie.After-may-ask) → y .may-ask .result ≡ R (y .before .before .before .before .before .before .before .before .before .before .before) .enabled
+unfolding rule.ask
+asked y = y .may-ask .ensures
+    ∙ (λ i. not (eqb (y .before .before .before .before .before .before .before .before .before .before .before .args .p) (y .before .before .before .before .before .root-of .ensures .0 i)) && joins (y .before .entry-of .ensures i) && not (eqb (route (y .before .before .before) i) 255) && not (has (y .before .entry-of .ensures i .waiting) (route (y .before .before .before) i)))
+
+enabled : (y : tie.Else2) → R (y .before .before .before .before .before .before .before .before .before .before .before .before) .enabled ≡ true
+enabled y = sym (asked (y .before)) ∙ not-false _ (y .if2 .left)
+
+near : (y : tie.Else2) → y .before .before .before .before .route-of .result < N (y .before .before .before .before .before .before .before .before .before .before .before .before) .stations
+near y = let a = y .before .before .before .before .before .before .before .before .before .before .before .before .args in
+    subst (λ (q : ℕ). q < N (y .before .before .before .before .before .before .before .before .before .before .before .before) .stations) (sym (route (y .before .before .before .before))) (cable (N (y .before .before .before .before .before .before .before .before .before .before .before .before)) (H (y .before .before .before .before .before .before .before .before .before .before .before .before)) (a .p) _ (ask-near (N (y .before .before .before .before .before .before .before .before .before .before .before .before)) (H (y .before .before .before .before .before .before .before .before .before .before .before .before)) (a .g) (a .p) (a .c) (enabled y)) .1)
+
+roomy : (z : tie.After-has-room) → z .has-room .result ≡ R (z .before .before .before .before .before .before .before .before .before .before .before .before .before .before) .sendRoom
+unfolding rule.ask
+roomy z = z .has-room .ensures ∙ ap (room? (N (z .before .before .before .before .before .before .before .before .before .before .before .before .before .before)) (z .before .before .before .before .before .before .before .before .before .before .before .before .before .before .args .p)) (route (z .before .before .before .before .before .before))
+
+entry : (u : tie.After-asking) → u .asking .result ≡ asking (N (u .before .before .before .before .before .before .before .before .before .before .before .before .before .before .before .before .before) .entry (u .before .before .before .before .before .before .before .before .before .before .before .before .before .before .before .before .before .args .g) (u .before .before .before .before .before .before .before .before .before .before .before .before .before .before .before .before .before .args .p)) (N (u .before .before .before .before .before .before .before .before .before .before .before .before .before .before .before .before .before) .route (u .before .before .before .before .before .before .before .before .before .before .before .before .before .before .before .before .before .args .p) (N (u .before .before .before .before .before .before .before .before .before .before .before .before .before .before .before .before .before) .root (u .before .before .before .before .before .before .before .before .before .before .before .before .before .before .before .before .before .args .g)))
+entry u = u .asking .ensures ∙ (λ i. asking (u .before .before .before .before .before .before .before .entry-of .ensures i) (route (u .before .before .before .before .before .before .before .before .before) i))
+
+of-station-requires : tie.Need-of-station-requires
+of-station-requires c κs = search needs
+
+refused-requires : tie.Need-refused-requires
+refused-requires c κs = search needs
+
+same-length : tie.Need-same-length
+same-length c = search needs
+
+returns : tie.Need-returns
+unfolding rule.ask
+returns c = ends-3 _ _ (c .refused .ensures) (sym (c .before .before .of-station .ensures) ∙ not-true _ (c .before .if1 .taken))
+
+root-of-requires : tie.Need-root-of-requires
+root-of-requires c κs = (c .before .before .before .before .before .pre, in-range (c .before) .0)
+
+route-of-requires : tie.Need-route-of-requires
+route-of-requires c κs = (c .before .before .before .before .before .before .before .pre, (in-range (c .before .before .before) .1, c .before .root-of .ensures .1))
+
+entry-of-requires : tie.Need-entry-of-requires
+entry-of-requires c κs = (c .before .before .before .before .before .before .before .before .before .pre, in-range (c .before .before .before .before .before))
+
+may-ask-requires : tie.Need-may-ask-requires
+may-ask-requires c κs = search needs
+
+refused-requires-2 : tie.Need-refused-requires-2
+refused-requires-2 c κs = search needs
+
+same-length-2 : tie.Need-same-length-2
+same-length-2 c = search needs
+
+returns-2 : tie.Need-returns-2
+unfolding rule.ask
+returns-2 c = ends-4 _ _ (c .refused2 .ensures) (operands (c .before .before .before .before .before .before .before .before .before)) (sym (asked (c .before .before)) ∙ not-true _ (c .before .if2 .taken))
+
+has-room-requires : tie.Need-has-room-requires
+has-room-requires c κs = (c .before .before .before .before .before .before .before .before .before .before .before .before .before .pre, (in-range (c .before .before .before .before .before .before .before .before .before) .1, near (c .before)))
+
+refused-requires-3 : tie.Need-refused-requires-3
+refused-requires-3 c κs = search needs
+
+same-length-3 : tie.Need-same-length-3
+same-length-3 c = search needs
+
+returns-3 : tie.Need-returns-3
+unfolding rule.ask
+returns-3 c = ends-6 _ _ (c .refused3 .ensures) (operands (c .before .before .before .before .before .before .before .before .before .before .before .before)) (enabled (c .before .before .before .before)) refl (sym (roomy (c .before .before)) ∙ not-true _ (c .before .if3 .taken))
+
+asking-requires : tie.Need-asking-requires
+asking-requires c κs = omega (arith, near (c .before .before .before .before), c .before .before .before .before .before .before .before .before .before .before .before .before .before .before .before .before .pre .few)
+
+request-requires : tie.Need-request-requires
+request-requires c κs = search needs
+
+post-requires : tie.Need-post-requires
+unfolding room?
+post-requires c κs = let a = c .before .before .before .before .before .before .before .before .before .before .before .before .before .before .before .before .before .before .args in (
+  c .before .before .before .before .before .before .before .before .before .before .before .before .before .before .before .before .before .before .pre,
+  record {
+    group = in-range (c .before .before .before .before .before .before .before .before .before .before .before .before .before .before) .0;
+    from = in-range (c .before .before .before .before .before .before .before .before .before .before .before .before .before .before) .1;
+    to = near (c .before .before .before .before .before .before);
+    between = subst (λ (e : Entry). Shaped (setEntry (N (c .before .before .before .before .before .before .before .before .before .before .before .before .before .before .before .before .before .before)) (a .g) (a .p) e)) (sym (entry (c .before))) (ask-entry (N (c .before .before .before .before .before .before .before .before .before .before .before .before .before .before .before .before .before .before)) (H (c .before .before .before .before .before .before .before .before .before .before .before .before .before .before .before .before .before .before)) (a .g) (a .p) (a .c) (operands (c .before .before .before .before .before .before .before .before .before .before .before .before .before .before)) (enabled (c .before .before .before .before .before .before)));
+    room = ltb-true _ _ (sym (c .before .before .before .before .has-room .ensures) ∙ not-false _ (c .before .before .before .if3 .left));
+  },
+)
+
+accepted-requires : tie.Need-accepted-requires
+accepted-requires c κs = search needs
+
+same-length-4 : tie.Need-same-length-4
+same-length-4 c = search needs
+
+returns-4 : tie.Need-returns-4
+unfolding rule.ask
+returns-4 c = let a = c .before .before .before .before .before .before .before .before .before .before .before .before .before .before .before .before .before .before .before .before .before .before .args in
+    ends-0 _ _ (c .accepted .ensures)
+    (record { operands = operands (c .before .before .before .before .before .before .before .before .before .before .before .before .before .before .before .before .before .before); enabled = enabled (c .before .before .before .before .before .before .before .before .before .before); clockRoom = refl; sendRoom = sym (roomy (c .before .before .before .before .before .before .before .before)) ∙ not-false _ (c .before .before .before .before .before .before .before .if3 .left) })
+    (c .before .before .before .post .ensures ∙ (λ i. bytesOf (send (setEntry (N (c .before .before .before .before .before .before .before .before .before .before .before .before .before .before .before .before .before .before .before .before .before .before)) (a .g) (a .p) (entry (c .before .before .before .before .before) i)) (a .p) (route (c .before .before .before .before .before .before .before .before .before .before .before .before .before .before) i) (c .before .before .before .before .request .ensures i))))
+
+pub ask-spec : {M : Type 1} → statement M
+ask-spec =
+    tie.close
+    (tie.spec
+    of-station-requires
+    refused-requires
+    same-length
+    returns
+    root-of-requires
+    route-of-requires
+    entry-of-requires
+    may-ask-requires
+    refused-requires-2
+    same-length-2
+    returns-2
+    has-room-requires
+    refused-requires-3
+    same-length-3
+    returns-3
+    asking-requires
+    request-requires
+    post-requires
+    accepted-requires
+    same-length-4
+    returns-4)

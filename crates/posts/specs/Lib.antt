@@ -1,0 +1,2 @@
+-- What a delivery asks.
+pub mod Oldest
