@@ -12,10 +12,10 @@ use Rattle.bits.proofs.Cases.{by-eq, by-lt}
 use Rattle.bits.proofs.Parts.{length-splice, part-splice, part-splice-out}
 use Rattle.protocol.specs.declared.Entry.{Entry}
 use Rattle.protocol.specs.declared.Message.{Message}
-use Rattle.protocol.specs.Net.{Net, capacity, upd2, setEntry, setChannel, setRoute}
+use Rattle.protocol.specs.Net.{Net, capacity, setEntry, setChannel, setRoute}
 use Rattle.protocol.specs.Fresh.{planOf}
 use Rattle.protocol.specs.Shaped.{Shaped}
-use Rattle.protocol.proofs.Maps.{upd2-hit, upd2-all}
+use Rattle.protocol.proofs.Maps.{upd2-hit, upd2-miss}
 use Rattle.channel.specs.Messages.{channelBytes}
 use Rattle.channel.proofs.Messages.{length-channel}
 use Rattle.layout.specs.Layout.{netLength, groupAt, maskAt, routeAt, entryAt, channelAt}
@@ -27,10 +27,6 @@ use Rattle.net.proofs.Records.{part-whole, length-entryBytes}
 use Rattle.net.proofs.Whole.{route-used, entry-used, channel-used, view-bytes}
 use Rattle.net.proofs.Back.{net-back}
 use Rattle.net.proofs.Passes.{passes}
-
-upd2-miss : {A : Type 0} (f : ℕ → ℕ → A) (i j : ℕ) (v : A) (x y : ℕ) → (x ≡ i → y ≡ j → ⊥) → upd2 f i j v x y ≡ f x y
-upd2-miss {A} f i j v x y n =
-    upd2-all (λ x y (w : A). (x ≡ i → y ≡ j → ⊥) → w ≡ f x y) (λ m. absurd (m refl refl)) (λ x y _ _. refl) x y n
 
 -- both numbers the same, or one of them not
 by-pair : {P : Type 0} (a b c d : ℕ) → (a ≡ c → b ≡ d → P) → ((a ≢ c) ⊎ (b ≢ d) → P) → P

@@ -52,6 +52,10 @@ upd2-all {A} Q {f} {i} {j} {v} a b x =
     (λ z h y. b z y (λ e _. h e))
     x
 
+pub upd2-miss : {A : Type 0} (f : ℕ → ℕ → A) (i j : ℕ) (v : A) (x y : ℕ) → (x ≡ i → y ≡ j → ⊥) → upd2 f i j v x y ≡ f x y
+upd2-miss {A} f i j v x y n =
+    upd2-all (λ x y (w : A). (x ≡ i → y ≡ j → ⊥) → w ≡ f x y) (λ m. absurd (m refl refl)) (λ x y _ _. refl) x y n
+
 -- ---- lists
 module _ {A : Type 0} where
   pub All-map : {P Q : A → Type 0} → ((x : A) → P x → Q x) → {l : List A} → All P l → All Q l

@@ -1,0 +1,58 @@
+-- How a step ends.
+use mathlib.Core.Path.{_≡_, refl, sym, ap, _∙_}
+use mathlib.Core.Logic.{_≢_}
+use mathlib.Core.Bool.{true, false, and-false}
+use mathlib.Core.List.{List}
+use Prim.Native.Nat.{ℕ, suc, _≤_}
+use native.Mathlib.Omega.{arith}
+use lib.Dec.{eqb, ltb}
+use borrow.Author.Tests.{eqb-true, le-ltb, lt-leb}
+use Rattle.bits.proofs.Cases.{by-bool, by-lt}
+use Rattle.protocol.specs.Net.{Net}
+use Rattle.protocol.specs.Rules.{Rule}
+use Rattle.protocol.specs.Steps.{verdict, action?, rule, outcome, step}
+use Rattle.net.specs.View.{view}
+use Rattle.net.proofs.Whole.{view-bytes}
+use Rattle.cells.specs.Ready.{Ready}
+use Rattle.act.specs.declared.Done.{Done}
+use Rattle.act.specs.Did.{refusal, doneBy, leftBy, Did}
+use Rattle.shape.specs.Shape.{shaped}
+use Rattle.step.specs.Stepped.{stepOutcome, stepLeaves, stepDone, Stepped}
+
+module _ (l : List ℕ) (r : Ready l) (k a b c : ℕ) where
+  abbrev R : Rule Net
+  R = rule (view l) k a b c
+
+  -- an action with a number did what its rule says
+  pub takes : {d : Done} {l' : List ℕ} → action? k ≡ true → Did R l d l' → Stepped l k a b c d l'
+  unfolding stepDone outcome step doneBy leftBy
+  takes t D = record {
+    answer = D .answer ∙ rw t refl;
+    bytes = D .bytes ∙ by-bool (eqb (verdict R) 0) (λ e. rw (t, e) refl) (λ e. rw (t, e) (sym (view-bytes l (r .good))));
+  }
+
+  -- a number that names no action
+  pub unknown : {d : Done} → action? k ≡ false → d ≡ refusal 2 → Stepped l k a b c d l
+  unfolding stepDone outcome step
+  unknown f e = record { answer = e ∙ rw f refl; bytes = rw f (sym (view-bytes l (r .good))) }
+
+-- a number that is none of one to nine names no action
+past : (n k : ℕ) → n ≤ k → k ≢ n → suc n ≤ k
+past n k h e = omega arith
+
+pub no-action : (k : ℕ) → k ≢ 1 → k ≢ 2 → k ≢ 3 → k ≢ 4 → k ≢ 5 → k ≢ 6 → k ≢ 7 → k ≢ 8 → k ≢ 9 → action? k ≡ false
+no-action k n1 n2 n3 n4 n5 n6 n7 n8 n9 = by-lt 0 k
+    (λ h. rw (lt-leb k 9 (past 9 k (past 8 k (past 7 k (past 6 k (past 5 k (past 4 k (past 3 k (past 2 k (past 1 k h n1) n2) n3) n4) n5) n6) n7) n8) n9)) (and-false (ltb 0 k)))
+    (λ z. rw (le-ltb 0 k z))
+
+-- any bytes: a net's, and others
+module _ (l : List ℕ) (k a b c : ℕ) where
+  pub on-net : shaped l ≡ true → {d : Done} {l' : List ℕ} → Stepped l k a b c d l' → (d .outcome ≡ stepOutcome l k a b c) × (l' ≡ stepLeaves l k a b c)
+  unfolding stepOutcome stepLeaves stepDone step
+  on-net s D = rw s (by-bool (eqb (outcome (view l) k a b c) 0)
+      (λ t. (ap (λ (d : Done). d .outcome) (D .answer) ∙ rw t (sym (eqb-true _ _ t)), D .bytes ∙ rw t))
+      (λ f. (ap (λ (d : Done). d .outcome) (D .answer) ∙ rw f, D .bytes ∙ rw f (view-bytes l s))))
+
+  pub on-none : shaped l ≡ false → (1 ≡ stepOutcome l k a b c) × (l ≡ stepLeaves l k a b c)
+  unfolding stepOutcome stepLeaves
+  on-none f = rw f (refl, refl)

@@ -1,0 +1,2 @@
+-- One step over bytes.
+pub mod Stepped
