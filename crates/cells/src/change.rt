@@ -14,7 +14,7 @@ ghost use Rattle.net.specs.Encode.{entryBytes, bytesOf};
 ghost use Rattle.cells.specs.Ready.{Ready};
 
 // The entry of station p, written to the stretch of one group.
-fn write_entry(stretch: &mut [u8], p: u8, e: Entry)
+pub fn write_entry(stretch: &mut [u8], p: u8, e: Entry)
     requires { ⌜ (length (now stretch) ≡ 192) × (p < 16) ⌝ }
     ensures { λ _. ⌜ now (stretch .exit) ≡ splice (now (stretch .entry)) (12 * p) (entryBytes e) ⌝ }
 {

@@ -7,3 +7,4 @@ pub mod Whole
 pub mod Back
 pub mod Passes
 pub mod Puts
+pub mod Same

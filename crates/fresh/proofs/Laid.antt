@@ -1,0 +1,212 @@
+-- The bytes that are laid are those of the fresh net.
+use mathlib.Core.Path.{_≡_, refl, sym, ap, ap₂, _∙_}
+use mathlib.Core.Logic.{inl, inr}
+use mathlib.Core.Bool.{Bool, true, false}
+use mathlib.Core.List.{List, [], _∷_, _++_}
+use Prim.Native.Nat.{ℕ, _+_, _≤_, _<_}
+use native.Mathlib.Nat.{zero-add}
+use native.Mathlib.Omega.{arith}
+use lib.ListN.{length, getD, replicate, length-replicate}
+use Rattle.bits.specs.Numbers.{bytes}
+use Rattle.bits.specs.Parts.{part, splice}
+use Rattle.bits.proofs.Numbers.{length-bytes}
+use Rattle.bits.proofs.Parts.{length-splice, part-splice, part-splice-out, part-part, part-add, part-cong, splice-in}
+use Rattle.protocol.specs.declared.Entry.{Entry}
+use Rattle.protocol.specs.Net.{Net, nil, setEntry, setRoute}
+use Rattle.protocol.specs.Fresh.{Plan, blank, planOf, fresh}
+use Rattle.channel.specs.Slots.{flat}
+use Rattle.channel.specs.Slots as slots
+use Rattle.channel.specs.Messages.{channelBytes}
+use Rattle.layout.specs.Layout.{netLength, planLength, stations, groups, groupAt, maskAt, routeAt, entryAt, channelAt}
+use Rattle.plan.specs.Planned.{planShaped}
+use Rattle.plan.proofs.Plans.{counts, plan-long, plan-small, plan-passes}
+use Rattle.net.specs.View.{used, planIn}
+use Rattle.net.specs.Encode.{ifUsed, entryBytes, header, groupCell, maskCell, routeCell, entryCell, channelCell, bytesOf}
+use Rattle.net.proofs.Cells.{part-right}
+use Rattle.net.proofs.Holds.{HoldsPlan, Holds, bytes-hold, hold-bytes}
+use Rattle.net.proofs.Records.{zeros-past}
+use Rattle.net.proofs.Shown.{by-used}
+use Rattle.net.proofs.Whole.{held-plan, route-used, route-unused, entry-used, entry-unused}
+use Rattle.net.proofs.Same.{bytes-same}
+use Rattle.net.proofs.Puts.{bytes-entry, bytes-route}
+use Rattle.fresh.specs.Laying.{inRows, routeGone, entryBlank, planLaid, laid}
+use Rattle.fresh.proofs.Folds.{rows-kept, rows-read, rows-tied}
+
+-- ---- the net whose bytes are the plan's, and zeros
+abbrev bare : Entry
+bare = record { parent = 0; tentative = 0; member = 0; clock = 0; children = 0; waiting = 0 }
+
+abbrev unlaid : Plan → Net
+unlaid P = record {
+  stations = P .stations;
+  groups = P .groups;
+  name = P .name;
+  root = P .root;
+  neighbours = P .neighbours;
+  route = λ p d. 0;
+  entry = λ g p. bare;
+  channel = λ s d. [];
+}
+
+-- a cell of zeros, used or not
+route-zero : (b : Bool) → part 1 (ifUsed b (0 ∷ [])) 0 ≡ part 1 [] 0
+unfolding part
+route-zero true = refl
+route-zero false = refl
+
+entry-zero : (b : Bool) → part 12 (ifUsed b (entryBytes bare)) 0 ≡ part 12 [] 0
+unfolding part entryBytes bytes
+entry-zero true = refl
+entry-zero false = refl
+
+channel-zero : (b : Bool) → part 57 (ifUsed b (channelBytes [])) 0 ≡ part 57 [] 0
+unfolding part flat slots.laid
+channel-zero true = refl
+channel-zero false = refl
+
+module _ (plan : List ℕ) (s : planShaped plan ≡ true) where
+  abbrev P : Plan
+  P = planIn plan
+
+  abbrev zeros : List ℕ
+  zeros = replicate netLength 0
+
+  zeros-long : length zeros ≡ netLength
+  zeros-long = length-replicate {A = ℕ} netLength 0
+
+  abbrev laid1 : List ℕ
+  laid1 = splice zeros 0 plan
+
+  n112 : length plan ≡ 112
+  n112 = plan-long plan s
+
+  held : HoldsPlan P planLength plan
+  held = held-plan plan planLength (plan-passes plan s) (plan-small plan s)
+
+  -- past the length, the front is the plan's
+  front : (w at : ℕ) → 4 ≤ at → at + w ≤ 112 → part w (planLaid plan) at ≡ part w plan at
+  unfolding planLaid
+  front w at h k =
+      part-splice-out w laid1 0 (bytes 4 netLength) at (inr (omega (arith, length-bytes 4 netLength)))
+      ∙ part-cong w laid1 plan at at (λ x b. ap (λ (i : ℕ). getD laid1 i 0) (sym (zero-add (at + x))) ∙ splice-in zeros 0 plan (at + x) (omega (arith, n112)) (omega (arith, n112, zeros-long)))
+
+  -- and past the plan, zeros
+  back : (w at : ℕ) → 112 ≤ at → part w (planLaid plan) at ≡ part w [] 0
+  unfolding planLaid
+  back w at h =
+      part-splice-out w laid1 0 (bytes 4 netLength) at (inr (omega (arith, length-bytes 4 netLength)))
+      ∙ part-splice-out w zeros 0 plan at (inr (omega (arith, n112)))
+      ∙ part-cong w zeros [] at 0 (λ x b. zeros-past netLength (at + x))
+
+  -- "version 1; stations n; groups g; zero"
+  tail : part 4 plan 4 ≡ 1 ∷ P .stations ∷ P .groups ∷ 0 ∷ []
+  unfolding header part
+  tail =
+      sym (part-part 4 8 plan 0 4 (omega arith)) ∙ ap (λ (l : List ℕ). part 4 l 4) (held .head)
+      ∙ part-right 4 (bytes 4 planLength) (1 ∷ P .stations ∷ P .groups ∷ 0 ∷ []) (length-bytes 4 planLength) 0
+
+  head : part 8 (planLaid plan) 0 ≡ header P netLength
+  unfolding planLaid header bytes
+  head =
+      part-add 4 4 (planLaid plan) 0
+      ∙ ap₂ _++_ (part-splice laid1 0 (bytes 4 netLength) (omega (arith, length-bytes 4 netLength, length-splice zeros 0 plan, zeros-long)))
+      (front 4 4 (omega arith) (omega arith) ∙ tail)
+
+  laid-long : length (planLaid plan) ≡ netLength
+  unfolding planLaid
+  laid-long = length-splice laid1 0 (bytes 4 netLength) ∙ length-splice zeros 0 plan ∙ zeros-long
+
+  unlaid-held : Holds (unlaid P) (planLaid plan)
+  unfolding routeCell entryCell channelCell
+  unlaid-held = record {
+    long = laid-long;
+    plan = record {
+      head = head;
+      groups = λ g h. front 18 (groupAt g) (omega arith) (omega arith) ∙ held .groups g h;
+      masks = λ p h. front 2 (maskAt p) (omega arith) (omega arith) ∙ held .masks p h;
+    };
+    routes = λ p d h k. back 1 (routeAt p d) (omega arith) ∙ sym (route-zero (used p (P .stations) d (P .stations)));
+    entries = λ g p h k. back 12 (entryAt g p) (omega arith) ∙ sym (entry-zero (used g (P .groups) p (P .stations)));
+    channels = λ x y h k. back 57 (channelAt x y) (omega arith) ∙ sym (channel-zero (used x (P .stations) y (P .stations)));
+  }
+
+  -- ---- the routes and the entries
+  abbrev n : ℕ
+  n = stations plan
+
+  abbrev gone : Net → ℕ → ℕ → Net
+  gone M p d = setRoute M p d nil
+
+  abbrev blanked : Net → ℕ → ℕ → Net
+  blanked M g p = setEntry M g p blank
+
+  abbrev routed : Net
+  routed = inRows gone (unlaid P) n n
+
+  abbrev all : Net
+  all = inRows blanked routed (groups plan) n
+
+  -- a net of the plan: where a put in the net is a put in its bytes
+  abbrev Planned : Net → Type 0
+  Planned M = planOf M ≡ P
+
+  few : stations plan ≤ 16
+  few = counts plan planLength (plan-passes plan s) .1
+
+  fewGroups : groups plan ≤ 4
+  fewGroups = counts plan planLength (plan-passes plan s) .3
+
+  tied-route : (M : Net) (p d : ℕ) → Planned M → p < n → d < n → bytesOf (gone M p d) ≡ routeGone (bytesOf M) p d
+  unfolding routeGone planIn
+  tied-route M p d e h k =
+      let st : M .stations ≡ n = ap (λ (Q : Plan). Q .stations) e in
+      let gr : M .groups ≡ groups plan = ap (λ (Q : Plan). Q .groups) e in
+      bytes-route M (omega (arith, few)) (omega (arith, fewGroups)) p d nil (omega arith) (omega arith)
+
+  tied-entry : (M : Net) (g p : ℕ) → Planned M → g < groups plan → p < n → bytesOf (blanked M g p) ≡ entryBlank (bytesOf M) g p
+  unfolding entryBlank planIn
+  tied-entry M g p e h k =
+      let st : M .stations ≡ n = ap (λ (Q : Plan). Q .stations) e in
+      let gr : M .groups ≡ groups plan = ap (λ (Q : Plan). Q .groups) e in
+      bytes-entry M (omega (arith, few)) (omega (arith, fewGroups)) g p blank (omega arith) (omega arith)
+
+  all-plan : Planned all
+  unfolding setEntry setRoute
+  all-plan = rows-kept blanked (λ (M : Net). planOf M) (λ M g p. refl) routed (groups plan) n ∙ rows-kept gone (λ (M : Net). planOf M) (λ M p d. refl) (unlaid P) n n
+
+  laid-all : laid plan ≡ bytesOf all
+  unfolding laid setRoute setEntry
+  laid-all =
+      ap (λ (l : List ℕ). inRows entryBlank l (groups plan) n)
+      (ap (λ (l : List ℕ). inRows routeGone l n n) (hold-bytes (unlaid P) (planLaid plan) unlaid-held)
+      ∙ sym (rows-tied gone routeGone bytesOf Planned n n (λ M p d e. e) tied-route (unlaid P) n n refl (omega arith) (omega arith)))
+      ∙ sym (rows-tied blanked entryBlank bytesOf Planned (groups plan) n (λ M g p e. e) tied-entry routed (groups plan) n
+      (rows-kept gone (λ (M : Net). planOf M) (λ M p d. refl) (unlaid P) n n) (omega arith) (omega arith))
+
+  all-route : (p d : ℕ) → p < n → d < n → all .route p d ≡ nil
+  unfolding setEntry setRoute
+  all-route p d h k =
+      (λ i. rows-kept blanked (λ (M : Net). M .route) (λ M g p. refl) routed (groups plan) n i p d)
+      ∙ rows-read gone (λ (M : Net). M .route) nil (λ M i j. refl) (unlaid P) n n p d h k
+
+  all-entry : (g p : ℕ) → g < groups plan → p < n → all .entry g p ≡ blank
+  unfolding setEntry
+  all-entry g p h k = rows-read blanked (λ (M : Net). M .entry) blank (λ M i j. refl) routed (groups plan) n g p h k
+
+  all-channel : all .channel ≡ (λ (x y : ℕ). [])
+  unfolding setEntry setRoute
+  all-channel = rows-kept blanked (λ (M : Net). M .channel) (λ M g p. refl) routed (groups plan) n ∙ rows-kept gone (λ (M : Net). M .channel) (λ M p d. refl) (unlaid P) n n
+
+  -- what is laid is the fresh net
+  pub laid-fresh : laid plan ≡ bytesOf (fresh P)
+  unfolding fresh
+  laid-fresh = laid-all ∙ bytes-same all (fresh P) all-plan
+      (λ p d h k. all-route p d (omega (arith, st)) (omega (arith, st)))
+      (λ g p h k. all-entry g p (omega (arith, gr)) (omega (arith, st)))
+      (λ x y h k. λ i. all-channel i x y)
+    where
+      st : all .stations ≡ n
+      st = unfold planIn in ap (λ (Q : Plan). Q .stations) all-plan
+
+      gr : all .groups ≡ groups plan
+      gr = unfold planIn in ap (λ (Q : Plan). Q .groups) all-plan

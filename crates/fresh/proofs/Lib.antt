@@ -1,0 +1,4 @@
+pub mod Turns
+pub mod Folds
+pub mod Laid
+pub mod Views

@@ -1,0 +1,73 @@
+use mathlib.Core.Path.{_≡_, ap, _∙_}
+use Prim.Native.Nat.{_+_, _*_, _-_}
+use native.Mathlib.Omega.{arith}
+use Rattle.bits.specs.Parts.{splice}
+use Rattle.bits.proofs.Parts.{lent, back, lent-back}
+use Rattle.protocol.specs.Fresh.{blank}
+use Rattle.net.specs.Encode.{entryBytes}
+use Rattle.net.proofs.Records.{length-entryBytes}
+use Rattle.fresh.specs.Laying.{entryBlank}
+use borrow.Author.Needs.{needs}
+use Rattle.fresh.proofs.blank_entry.Statement.{statement}
+use Rattle.fresh.proofs.blank_entry.Tie as tie
+use Rattle.fresh.proofs.blank_entry.Reads as reads
+use Rattle.fresh.proofs.blank_entry.Lts as lts
+use Rattle.cells.proofs.change.write_entry.Reads as write-entry-reads
+use Rattle.fresh.proofs.no_entry.Reads as no-entry-reads
+use Rattle.layout.proofs.place.entry_stretch.Reads as entry-stretch-reads
+
+-- src/lib.rt:82:9
+entry-stretch-requires : tie.Need-entry-stretch-requires
+entry-stretch-requires c κs = search needs
+
+-- src/lib.rt:83:44
+add-write-entry : tie.Need-add-write-entry
+add-write-entry c = search needs
+
+-- src/lib.rt:83:32
+sub-write-entry : tie.Need-sub-write-entry
+sub-write-entry c = search needs
+
+-- src/lib.rt:83:32
+part-write-entry-start : tie.Need-part-write-entry-start
+part-write-entry-start c = search needs
+
+-- src/lib.rt:83:32
+part-write-entry-end : tie.Need-part-write-entry-end
+part-write-entry-end c = search needs
+
+-- src/lib.rt:83:57
+no-entry-requires : tie.Need-no-entry-requires
+no-entry-requires c κs = search needs
+
+-- src/lib.rt:83:5
+write-entry-requires : tie.Need-write-entry-requires
+write-entry-requires c κs = search needs
+
+-- src/lib.rt:78:1
+same-length : tie.Need-same-length
+same-length c = search needs
+
+-- src/lib.rt:78:1
+returns : tie.Need-returns
+unfolding entryBlank
+returns c = let l = c .before .before .before .before .before .before .before .args .net .now in
+    let p = c .before .before .before .before .before .before .before .args .p in
+    let a = c .before .before .before .before .before .entry-stretch .result in
+    ap (back a (a + 192 - a) l) (c .before .before .write-entry .ensures)
+    ∙ lent-back a (a + 192 - a) l (12 * p) (entryBytes (c .before .before .before .no-entry .result)) (omega (arith, length-entryBytes (c .before .before .before .no-entry .result)))
+    ∙ (λ i. splice l (c .before .before .before .before .before .entry-stretch .ensures .0 i + 12 * p) (entryBytes (c .before .before .before .no-entry .ensures i)))
+
+pub blank-entry-spec : {M : Type 1} → statement M
+blank-entry-spec =
+    tie.close
+    (tie.spec
+    entry-stretch-requires
+    add-write-entry
+    sub-write-entry
+    part-write-entry-start
+    part-write-entry-end
+    no-entry-requires
+    write-entry-requires
+    same-length
+    returns)

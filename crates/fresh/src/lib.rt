@@ -1,0 +1,135 @@
+// A fresh net from a plan.
+use bits::number::put32;
+use bits::number::wide;
+use layout::place;
+use protocol::Entry;
+ghost use mathlib.Core.Path.{_≡_};
+ghost use Prim.Native.Nat.{_≤_, _<_};
+ghost use lib.ListN.{length, replicate};
+ghost use Rattle.bits.specs.Parts.{splice};
+ghost use Rattle.protocol.specs.Net.{mostStations, mostGroups};
+ghost use Rattle.protocol.specs.Fresh.{blank};
+ghost use Rattle.layout.specs.Layout.{netLength, planLength, stations, groups};
+ghost use Rattle.fresh.specs.Fresh.{freshOutcome, freshLeaves};
+ghost use Rattle.fresh.specs.Laying.{inRow, inRows, routeGone, entryBlank, laid};
+
+// Every byte becomes zero.
+fn clear(s: &mut [u8])
+    ensures { λ _. ⌜ now (s .exit) ≡ replicate (length (now (s .entry))) 0 ⌝ }
+{
+    let n = s.len();
+    let mut i = 0;
+    while i < n {
+        s[i] = 0;
+        i += 1;
+    }
+}
+
+// The bytes of one list, at the front of another.
+fn copy(from: &[u8], to: &mut [u8])
+    requires { ⌜ length (now from) ≤ length (now to) ⌝ }
+    ensures { λ _. ⌜ now (to .exit) ≡ splice (now (to .entry)) 0 (now (from .entry)) ⌝ }
+{
+    let n = from.len();
+    let mut i = 0;
+    while i < n {
+        to[i] = from[i];
+        i += 1;
+    }
+}
+
+// Station p has no route to any of the n stations.
+fn routes_from(net: &mut [u8], p: usize, n: usize)
+    requires { ⌜ (length (now net) ≡ netLength) × (p < 16) × (n ≤ 16) ⌝ }
+    ensures { λ _. ⌜ now (net .exit) ≡ inRow routeGone (now (net .entry)) p n ⌝ }
+{
+    let mut d = 0;
+    while d < n {
+        net[place::route(p, d)] = 255;
+        d += 1;
+    }
+}
+
+fn routes(net: &mut [u8], n: usize)
+    requires { ⌜ (length (now net) ≡ netLength) × (n ≤ 16) ⌝ }
+    ensures { λ _. ⌜ now (net .exit) ≡ inRows routeGone (now (net .entry)) n n ⌝ }
+{
+    let mut p = 0;
+    while p < n {
+        routes_from(net, p, n);
+        p += 1;
+    }
+}
+
+fn no_entry() -> Entry
+    ensures { λ r. ⌜ r ≡ blank ⌝ }
+{
+    Entry {
+        parent: 255,
+        tentative: 255,
+        member: 0,
+        clock: 0,
+        children: 0,
+        waiting: 0,
+    }
+}
+
+// The entry of station p in group g is blank.
+fn blank_entry(net: &mut [u8], g: usize, p: u8)
+    requires { ⌜ (length (now net) ≡ netLength) × (g < 4) × (p < 16) ⌝ }
+    ensures { λ _. ⌜ now (net .exit) ≡ entryBlank (now (net .entry)) g p ⌝ }
+{
+    let a = place::entry_stretch(g);
+    cells::change::write_entry(&mut net[a..a + 192], p, no_entry());
+}
+
+// So are those of the n stations.
+fn entries_of(net: &mut [u8], g: usize, n: u8)
+    requires { ⌜ (length (now net) ≡ netLength) × (g < 4) × (n ≤ 16) ⌝ }
+    ensures { λ _. ⌜ now (net .exit) ≡ inRow entryBlank (now (net .entry)) g n ⌝ }
+{
+    let mut p: u8 = 0;
+    while p < n {
+        blank_entry(net, g, p);
+        p += 1;
+    }
+}
+
+fn entries(net: &mut [u8], groups: usize, n: u8)
+    requires { ⌜ (length (now net) ≡ netLength) × (groups ≤ 4) × (n ≤ 16) ⌝ }
+    ensures { λ _. ⌜ now (net .exit) ≡ inRows entryBlank (now (net .entry)) groups n ⌝ }
+{
+    let mut g = 0;
+    while g < groups {
+        entries_of(net, g, n);
+        g += 1;
+    }
+}
+
+// The whole net: all zero, but for the plan, the routes and the parents.
+fn lay(plan: &[u8], net: &mut [u8])
+    requires { ⌜ (length (now plan) ≡ planLength) × (stations (now plan) ≤ mostStations) × (groups (now plan) ≤ mostGroups) × (length (now net) ≡ netLength) ⌝ }
+    ensures { λ _. ⌜ now (net .exit) ≡ laid (now (plan .entry)) ⌝ }
+{
+    let n = plan[5];
+    clear(net);
+    copy(plan, net);
+    put32(net, 0, 15728);
+    routes(net, wide(n));
+    entries(net, wide(plan[6]), n);
+}
+
+// A fresh net into any buffer, from any bytes: its outcome number.
+pub fn fresh(plan: &[u8], net: &mut [u8]) -> u8
+    ensures { λ r. ⌜ (r ≡ freshOutcome (now (plan .entry)) (now (net .entry))) × (now (net .exit) ≡ freshLeaves (now (plan .entry)) (now (net .entry))) ⌝ }
+{
+    if net.len() != 15728 {
+        return 10;
+    }
+    if plan::whole::is_plan(plan) {
+        lay(plan, net);
+        0
+    } else {
+        9
+    }
+}
