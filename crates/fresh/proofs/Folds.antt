@@ -2,8 +2,7 @@
 --     rows-kept    what no put touches
 --     rows-read    what is read at a place where it was put
 --     rows-tied    the same puts on two sides
-use mathlib.Core.Path.{_≡_, refl, sym, ap, _∙_}
-use mathlib.Core.Logic.{inl, inr}
+use mathlib.Core.Path.{_≡_, refl, ap, _∙_}
 use Prim.Native.Nat.{ℕ, zero, suc, _≤_, _<_}
 use native.Mathlib.Omega.{arith}
 use Rattle.bits.proofs.Cases.{by-eq}

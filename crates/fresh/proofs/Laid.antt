@@ -1,6 +1,6 @@
 -- The bytes that are laid are those of the fresh net.
 use mathlib.Core.Path.{_≡_, refl, sym, ap, ap₂, _∙_}
-use mathlib.Core.Logic.{inl, inr}
+use mathlib.Core.Logic.{inr}
 use mathlib.Core.Bool.{Bool, true, false}
 use mathlib.Core.List.{List, [], _∷_, _++_}
 use Prim.Native.Nat.{ℕ, _+_, _≤_, _<_}
@@ -21,12 +21,11 @@ use Rattle.layout.specs.Layout.{netLength, planLength, stations, groups, groupA
 use Rattle.plan.specs.Planned.{planShaped}
 use Rattle.plan.proofs.Plans.{counts, plan-long, plan-small, plan-passes}
 use Rattle.net.specs.View.{used, planIn}
-use Rattle.net.specs.Encode.{ifUsed, entryBytes, header, groupCell, maskCell, routeCell, entryCell, channelCell, bytesOf}
+use Rattle.net.specs.Encode.{ifUsed, entryBytes, header, routeCell, entryCell, channelCell, bytesOf}
 use Rattle.net.proofs.Cells.{part-right}
-use Rattle.net.proofs.Holds.{HoldsPlan, Holds, bytes-hold, hold-bytes}
+use Rattle.net.proofs.Holds.{HoldsPlan, Holds, hold-bytes}
 use Rattle.net.proofs.Records.{zeros-past}
-use Rattle.net.proofs.Shown.{by-used}
-use Rattle.net.proofs.Whole.{held-plan, route-used, route-unused, entry-used, entry-unused}
+use Rattle.net.proofs.Whole.{held-plan}
 use Rattle.net.proofs.Same.{bytes-same}
 use Rattle.net.proofs.Puts.{bytes-entry, bytes-route}
 use Rattle.fresh.specs.Laying.{inRows, routeGone, entryBlank, planLaid, laid}

@@ -1,12 +1,11 @@
 -- One turn of each loop, and its end.
 use mathlib.Core.Path.{_≡_, refl, sym, ap, _∙_}
 use mathlib.Core.List.{List, [], _∷_, _++_}
-use Prim.Native.Nat.{ℕ, zero, suc, _+_, _≤_}
+use Prim.Native.Nat.{ℕ, zero, suc, _+_}
 use native.Mathlib.Nat.{zero-add}
 use native.Mathlib.Numerals.{add-one}
 use native.Mathlib.Omega.{arith}
 use lib.ListN.{length, getD, set, replicate}
-use lib.Seq.{sets}
 use Rattle.bits.specs.Parts.{part, splice}
 use Rattle.bits.proofs.Parts.{length-part, length-splice, part-add, part-all, part-splice, splice-append}
 use Rattle.fresh.specs.Laying.{inRow, inRows}

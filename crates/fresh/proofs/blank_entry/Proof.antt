@@ -1,54 +1,39 @@
-use mathlib.Core.Path.{_≡_, ap, _∙_}
+use mathlib.Core.Path.{ap, _∙_}
 use Prim.Native.Nat.{_+_, _*_, _-_}
 use native.Mathlib.Omega.{arith}
 use Rattle.bits.specs.Parts.{splice}
-use Rattle.bits.proofs.Parts.{lent, back, lent-back}
-use Rattle.protocol.specs.Fresh.{blank}
+use Rattle.bits.proofs.Parts.{back, lent-back}
 use Rattle.net.specs.Encode.{entryBytes}
 use Rattle.net.proofs.Records.{length-entryBytes}
 use Rattle.fresh.specs.Laying.{entryBlank}
 use borrow.Author.Needs.{needs}
 use Rattle.fresh.proofs.blank_entry.Statement.{statement}
 use Rattle.fresh.proofs.blank_entry.Tie as tie
-use Rattle.fresh.proofs.blank_entry.Reads as reads
-use Rattle.fresh.proofs.blank_entry.Lts as lts
-use Rattle.cells.proofs.change.write_entry.Reads as write-entry-reads
-use Rattle.fresh.proofs.no_entry.Reads as no-entry-reads
-use Rattle.layout.proofs.place.entry_stretch.Reads as entry-stretch-reads
 
--- src/lib.rt:82:9
 entry-stretch-requires : tie.Need-entry-stretch-requires
 entry-stretch-requires c κs = search needs
 
--- src/lib.rt:83:44
 add-write-entry : tie.Need-add-write-entry
 add-write-entry c = search needs
 
--- src/lib.rt:83:32
 sub-write-entry : tie.Need-sub-write-entry
 sub-write-entry c = search needs
 
--- src/lib.rt:83:32
 part-write-entry-start : tie.Need-part-write-entry-start
 part-write-entry-start c = search needs
 
--- src/lib.rt:83:32
 part-write-entry-end : tie.Need-part-write-entry-end
 part-write-entry-end c = search needs
 
--- src/lib.rt:83:57
 no-entry-requires : tie.Need-no-entry-requires
 no-entry-requires c κs = search needs
 
--- src/lib.rt:83:5
 write-entry-requires : tie.Need-write-entry-requires
 write-entry-requires c κs = search needs
 
--- src/lib.rt:78:1
 same-length : tie.Need-same-length
 same-length c = search needs
 
--- src/lib.rt:78:1
 returns : tie.Need-returns
 unfolding entryBlank
 returns c = let l = c .before .before .before .before .before .before .before .args .net .now in

@@ -3,14 +3,11 @@ use mathlib.Core.List.{[]}
 use Prim.Native.Nat.{_≤_, _-_}
 use native.Mathlib.Omega.{arith}
 use lib.ListN.{length}
-use lib.Seq.{length-sets}
 use Rattle.bits.specs.Parts.{part, splice}
 use Rattle.bits.proofs.Parts.{length-part, length-splice}
 use Rattle.fresh.proofs.Turns.{put-turn, splice-whole, zeros}
 use Rattle.fresh.proofs.clear.Statement.{statement}
 use Rattle.fresh.proofs.clear.Tie as tie
-use Rattle.fresh.proofs.clear.Reads as reads
-use Rattle.fresh.proofs.clear.Lts as lts
 
 abbrev Inv-loop : tie.InvT-loop
 Inv-loop s₀ n i₀ s i = (i ≤ n) × (s ≡ splice s₀ 0 (part i [] 0)) × (length s ≡ n)
@@ -18,34 +15,27 @@ Inv-loop s₀ n i₀ s i = (i ≤ n) × (s ≡ splice s₀ 0 (part i [] 0)) × (
 abbrev μ-loop : tie.MeasureT-loop
 μ-loop s₀ n i₀ s i = n - i
 
--- src/lib.rt:22:5
 loop-holds : tie.Need-loop-holds Inv-loop μ-loop
 unfolding part splice
 loop-holds c = (omega arith, refl, refl)
 
--- src/lib.rt:23:9
 slice-write-s : tie.Need-slice-write-s Inv-loop μ-loop
 slice-write-s c = omega arith
 
--- src/lib.rt:24:9
 add-i : tie.Need-add-i Inv-loop μ-loop
 add-i c = omega arith
 
--- src/lib.rt:22:5
 loop-less : tie.Need-loop-less Inv-loop μ-loop
 loop-less c = omega arith
 
--- src/lib.rt:22:5
 loop-again : tie.Need-loop-again Inv-loop μ-loop
 loop-again c = let l = c .before .loop in
     let e = put-turn (c .before .before .args .s .now) [] (l .s) (l .i) (l .inv .1) in
     (omega arith, e, ap length e ∙ length-splice _ 0 _)
 
--- src/lib.rt:17:1
 same-length : tie.Need-same-length Inv-loop μ-loop
 same-length c = omega arith
 
--- src/lib.rt:17:1
 returns : tie.Need-returns Inv-loop μ-loop
 returns c = let l = c .before .loop in
     let e : l .i ≡ length (c .before .before .args .s .now) = omega arith in

@@ -1,5 +1,4 @@
 use mathlib.Core.Path.{_≡_, refl, ap, _∙_}
-use mathlib.Core.List.{[]}
 use Prim.Native.Nat.{_≤_, _-_}
 use native.Mathlib.Omega.{arith}
 use lib.ListN.{length}
@@ -8,8 +7,6 @@ use Rattle.bits.proofs.Parts.{length-splice, part-all}
 use Rattle.fresh.proofs.Turns.{put-turn}
 use Rattle.fresh.proofs.copy.Statement.{statement}
 use Rattle.fresh.proofs.copy.Tie as tie
-use Rattle.fresh.proofs.copy.Reads as reads
-use Rattle.fresh.proofs.copy.Lts as lts
 
 abbrev Inv-loop : tie.InvT-loop
 Inv-loop from to₀ n i₀ to i = (i ≤ n) × (to ≡ splice to₀ 0 (part i from 0)) × (length to ≡ length to₀)
@@ -17,38 +14,30 @@ Inv-loop from to₀ n i₀ to i = (i ≤ n) × (to ≡ splice to₀ 0 (part i fr
 abbrev μ-loop : tie.MeasureT-loop
 μ-loop from to₀ n i₀ to i = n - i
 
--- src/lib.rt:35:5
 loop-holds : tie.Need-loop-holds Inv-loop μ-loop
 unfolding part splice
 loop-holds c = (omega arith, refl, refl)
 
--- src/lib.rt:36:17
 shared-slice-read-to : tie.Need-shared-slice-read-to Inv-loop μ-loop
 shared-slice-read-to c = omega arith
 
--- src/lib.rt:36:9
 slice-write-to : tie.Need-slice-write-to Inv-loop μ-loop
 slice-write-to c = omega arith
 
--- src/lib.rt:37:9
 add-i : tie.Need-add-i Inv-loop μ-loop
 add-i c = omega arith
 
--- src/lib.rt:35:5
 loop-less : tie.Need-loop-less Inv-loop μ-loop
 loop-less c = omega arith
 
--- src/lib.rt:35:5
 loop-again : tie.Need-loop-again Inv-loop μ-loop
 loop-again c = let l = c .before .before .loop in
     let e = put-turn (c .before .before .before .args .to .now) (c .before .before .before .args .from .now) (l .to) (l .i) (l .inv .1) in
     (omega arith, e, ap length e ∙ length-splice _ 0 _)
 
--- src/lib.rt:29:1
 same-length : tie.Need-same-length Inv-loop μ-loop
 same-length c = omega arith
 
--- src/lib.rt:29:1
 returns : tie.Need-returns Inv-loop μ-loop
 returns c = let l = c .before .loop in
     let e : l .i ≡ length (c .before .before .args .from .now) = omega arith in

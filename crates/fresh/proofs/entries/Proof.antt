@@ -6,9 +6,6 @@ use Rattle.fresh.specs.Laying.{inRows, entryBlank}
 use Rattle.fresh.proofs.Turns.{rows-turn}
 use Rattle.fresh.proofs.entries.Statement.{statement}
 use Rattle.fresh.proofs.entries.Tie as tie
-use Rattle.fresh.proofs.entries.Reads as reads
-use Rattle.fresh.proofs.entries.Lts as lts
-use Rattle.fresh.proofs.entries_of.Reads as entries-of-reads
 
 abbrev Inv-loop : tie.InvT-loop
 Inv-loop net₀ groups n g₀ net g = (g ≤ groups) × (net ≡ inRows entryBlank net₀ g n) × (length net ≡ length net₀)
@@ -16,33 +13,26 @@ Inv-loop net₀ groups n g₀ net g = (g ≤ groups) × (net ≡ inRows entryBla
 abbrev μ-loop : tie.MeasureT-loop
 μ-loop net₀ groups n g₀ net g = groups - g
 
--- src/lib.rt:103:5
 loop-holds : tie.Need-loop-holds Inv-loop μ-loop
 unfolding inRows
 loop-holds c = (omega arith, refl, refl)
 
--- src/lib.rt:104:9
 entries-of-requires : tie.Need-entries-of-requires Inv-loop μ-loop
 entries-of-requires c κs = omega arith
 
--- src/lib.rt:105:9
 add-g : tie.Need-add-g Inv-loop μ-loop
 add-g c = omega arith
 
--- src/lib.rt:103:5
 loop-less : tie.Need-loop-less Inv-loop μ-loop
 loop-less c = omega arith
 
--- src/lib.rt:103:5
 loop-again : tie.Need-loop-again Inv-loop μ-loop
 loop-again c = let l = c .before .before .before .before .before .loop in
     (omega arith, rows-turn entryBlank _ (l .net) _ (l .g) (c .before .before .before .before .before .before .before .args .n) (l .inv .1) (c .before .before .entries-of .ensures), omega arith)
 
--- src/lib.rt:98:1
 same-length : tie.Need-same-length Inv-loop μ-loop
 same-length c = omega arith
 
--- src/lib.rt:98:1
 returns : tie.Need-returns Inv-loop μ-loop
 returns c = let l = c .before .loop in
     let e : l .g ≡ c .before .before .before .args .groups = omega arith in

@@ -6,9 +6,6 @@ use Rattle.fresh.specs.Laying.{inRow, entryBlank}
 use Rattle.fresh.proofs.Turns.{row-turn}
 use Rattle.fresh.proofs.entries_of.Statement.{statement}
 use Rattle.fresh.proofs.entries_of.Tie as tie
-use Rattle.fresh.proofs.entries_of.Reads as reads
-use Rattle.fresh.proofs.entries_of.Lts as lts
-use Rattle.fresh.proofs.blank_entry.Reads as blank-entry-reads
 
 abbrev Inv-loop : tie.InvT-loop
 Inv-loop net₀ g n p₀ net p = (p ≤ n) × (net ≡ inRow entryBlank net₀ g p) × (length net ≡ length net₀)
@@ -16,33 +13,26 @@ Inv-loop net₀ g n p₀ net p = (p ≤ n) × (net ≡ inRow entryBlank net₀ g
 abbrev μ-loop : tie.MeasureT-loop
 μ-loop net₀ g n p₀ net p = n - p
 
--- src/lib.rt:92:5
 loop-holds : tie.Need-loop-holds Inv-loop μ-loop
 unfolding inRow
 loop-holds c = (omega arith, refl, refl)
 
--- src/lib.rt:93:9
 blank-entry-requires : tie.Need-blank-entry-requires Inv-loop μ-loop
 blank-entry-requires c κs = omega arith
 
--- src/lib.rt:94:9
 add-p : tie.Need-add-p Inv-loop μ-loop
 add-p c = omega arith
 
--- src/lib.rt:92:5
 loop-less : tie.Need-loop-less Inv-loop μ-loop
 loop-less c = omega arith
 
--- src/lib.rt:92:5
 loop-again : tie.Need-loop-again Inv-loop μ-loop
 loop-again c = let l = c .before .before .before .before .before .loop in
     (omega arith, c .before .before .blank-entry .ensures ∙ row-turn entryBlank _ (l .net) (c .before .before .before .before .before .before .before .args .g) (l .p) (l .inv .1), omega arith)
 
--- src/lib.rt:87:1
 same-length : tie.Need-same-length Inv-loop μ-loop
 same-length c = omega arith
 
--- src/lib.rt:87:1
 returns : tie.Need-returns Inv-loop μ-loop
 returns c = let l = c .before .loop in
     let e : l .p ≡ c .before .before .before .args .n = omega arith in

@@ -1,45 +1,33 @@
-use mathlib.Core.Path.{_≡_, refl, sym, ap, _∙_}
-use mathlib.Core.Bool.{true, false}
+use mathlib.Core.Path.{refl, sym, _∙_}
 use native.Mathlib.Omega.{arith}
 use borrow.Author.Tests.{eq-eqb, ne-eqb}
-use Rattle.plan.specs.Planned.{planShaped}
 use Rattle.plan.proofs.Plans.{counts, plan-long, plan-passes}
 use Rattle.fresh.specs.Fresh.{freshOutcome, freshLeaves}
 use Rattle.fresh.proofs.Laid.{laid-fresh}
 use borrow.Author.Needs.{needs}
 use Rattle.fresh.proofs.fresh.Statement.{statement}
 use Rattle.fresh.proofs.fresh.Tie as tie
-use Rattle.fresh.proofs.fresh.Reads as reads
-use Rattle.fresh.proofs.fresh.Lts as lts
-use Rattle.fresh.proofs.lay.Reads as lay-reads
-use Rattle.plan.proofs.whole.is_plan.Reads as is-plan-reads
 
--- src/lib.rt:127:9
 returns : tie.Need-returns
 unfolding freshOutcome freshLeaves
 returns c = rw (ne-eqb _ _ (c .if1 .taken)) (refl, refl)
 
--- src/lib.rt:129:8
 is-plan-requires : tie.Need-is-plan-requires
 is-plan-requires c κs = search needs
 
--- src/lib.rt:130:9
 lay-requires : tie.Need-lay-requires
 lay-requires c κs = let s = sym (c .before .before .is-plan .ensures) ∙ c .before .if2 .taken in
     let w = counts _ 112 (plan-passes _ s) in
     (plan-long _ s, w .1, w .3, omega arith)
 
--- src/lib.rt:123:1
 same-length : tie.Need-same-length
 same-length c = search needs
 
--- src/lib.rt:123:1
 returns-2 : tie.Need-returns-2
 unfolding freshOutcome freshLeaves
 returns-2 c = let s = sym (c .before .before .before .before .before .is-plan .ensures) ∙ c .before .before .before .before .if2 .taken in
     rw (eq-eqb _ 15728 (c .before .before .before .before .before .before .if1 .left), s) (refl, c .before .before .lay .ensures ∙ laid-fresh _ s)
 
--- src/lib.rt:123:1
 returns-3 : tie.Need-returns-3
 unfolding freshOutcome freshLeaves
 returns-3 c = rw (eq-eqb _ 15728 (c .before .before .if1 .left), sym (c .before .is-plan .ensures) ∙ c .if2 .left) (refl, refl)

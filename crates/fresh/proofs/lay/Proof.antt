@@ -1,5 +1,5 @@
 use Rattle.layout.specs.Layout.{stations}
-use mathlib.Core.Path.{_≡_, ap, _∙_}
+use mathlib.Core.Path.{ap, _∙_}
 use mathlib.Core.List.{List}
 use Prim.Native.Nat.{ℕ}
 use lib.ListN.{replicate}
@@ -9,56 +9,37 @@ use Rattle.fresh.specs.Laying.{inRows, routeGone, entryBlank, planLaid, 
 use borrow.Author.Needs.{needs}
 use Rattle.fresh.proofs.lay.Statement.{statement}
 use Rattle.fresh.proofs.lay.Tie as tie
-use Rattle.fresh.proofs.lay.Reads as reads
-use Rattle.fresh.proofs.lay.Lts as lts
-use Rattle.bits.proofs.number.put32.Reads as put32-reads
-use Rattle.bits.proofs.number.wide.Reads as wide-reads
-use Rattle.fresh.proofs.clear.Reads as clear-reads
-use Rattle.fresh.proofs.copy.Reads as copy-reads
-use Rattle.fresh.proofs.entries.Reads as entries-reads
-use Rattle.fresh.proofs.routes.Reads as routes-reads
 
--- src/lib.rt:114:13
 shared-slice-read-n : tie.Need-shared-slice-read-n
 shared-slice-read-n c = search needs
 
--- src/lib.rt:115:5
 clear-requires : tie.Need-clear-requires
 clear-requires c κs = search needs
 
--- src/lib.rt:116:5
 copy-requires : tie.Need-copy-requires
 copy-requires c κs = search needs
 
--- src/lib.rt:117:5
 put32-requires : tie.Need-put32-requires
 put32-requires c κs = search needs
 
--- src/lib.rt:118:17
 wide-requires : tie.Need-wide-requires
 wide-requires c κs = search needs
 
--- src/lib.rt:118:5
 routes-requires : tie.Need-routes-requires
 routes-requires c κs = search needs
 
--- src/lib.rt:119:23
 shared-slice-read-wide : tie.Need-shared-slice-read-wide
 shared-slice-read-wide c = search needs
 
--- src/lib.rt:119:18
 wide-requires-2 : tie.Need-wide-requires-2
 wide-requires-2 c κs = search needs
 
--- src/lib.rt:119:5
 entries-requires : tie.Need-entries-requires
 entries-requires c κs = search needs
 
--- src/lib.rt:110:1
 same-length : tie.Need-same-length
 same-length c = search needs
 
--- src/lib.rt:110:1
 returns : tie.Need-returns
 unfolding laid planLaid
 returns c = let p = c .before .before .before .before .before .before .before .before .before .before .before .before .before .before .before .before .before .before .before .before .before .before .before .before .before .before .args .plan .now in

@@ -6,9 +6,6 @@ use Rattle.fresh.specs.Laying.{inRows, routeGone}
 use Rattle.fresh.proofs.Turns.{rows-turn}
 use Rattle.fresh.proofs.routes.Statement.{statement}
 use Rattle.fresh.proofs.routes.Tie as tie
-use Rattle.fresh.proofs.routes.Reads as reads
-use Rattle.fresh.proofs.routes.Lts as lts
-use Rattle.fresh.proofs.routes_from.Reads as routes-from-reads
 
 abbrev Inv-loop : tie.InvT-loop
 Inv-loop net₀ n p₀ net p = (p ≤ n) × (net ≡ inRows routeGone net₀ p n) × (length net ≡ length net₀)
@@ -16,33 +13,26 @@ Inv-loop net₀ n p₀ net p = (p ≤ n) × (net ≡ inRows routeGone net₀ p n
 abbrev μ-loop : tie.MeasureT-loop
 μ-loop net₀ n p₀ net p = n - p
 
--- src/lib.rt:58:5
 loop-holds : tie.Need-loop-holds Inv-loop μ-loop
 unfolding inRows
 loop-holds c = (omega arith, refl, refl)
 
--- src/lib.rt:59:9
 routes-from-requires : tie.Need-routes-from-requires Inv-loop μ-loop
 routes-from-requires c κs = omega arith
 
--- src/lib.rt:60:9
 add-p : tie.Need-add-p Inv-loop μ-loop
 add-p c = omega arith
 
--- src/lib.rt:58:5
 loop-less : tie.Need-loop-less Inv-loop μ-loop
 loop-less c = omega arith
 
--- src/lib.rt:58:5
 loop-again : tie.Need-loop-again Inv-loop μ-loop
 loop-again c = let l = c .before .before .before .before .before .loop in
     (omega arith, rows-turn routeGone _ (l .net) _ (l .p) (c .before .before .before .before .before .before .before .args .n) (l .inv .1) (c .before .before .routes-from .ensures), omega arith)
 
--- src/lib.rt:53:1
 same-length : tie.Need-same-length Inv-loop μ-loop
 same-length c = omega arith
 
--- src/lib.rt:53:1
 returns : tie.Need-returns Inv-loop μ-loop
 returns c = let l = c .before .loop in
     let e : l .p ≡ c .before .before .before .args .n = omega arith in

@@ -7,9 +7,6 @@ use Rattle.fresh.specs.Laying.{inRow, routeGone}
 use Rattle.fresh.proofs.Turns.{row-turn}
 use Rattle.fresh.proofs.routes_from.Statement.{statement}
 use Rattle.fresh.proofs.routes_from.Tie as tie
-use Rattle.fresh.proofs.routes_from.Reads as reads
-use Rattle.fresh.proofs.routes_from.Lts as lts
-use Rattle.layout.proofs.place.route.Reads as route-reads
 
 abbrev Inv-loop : tie.InvT-loop
 Inv-loop net₀ p n d₀ net d = (d ≤ n) × (net ≡ inRow routeGone net₀ p d) × (length net ≡ length net₀)
@@ -17,38 +14,30 @@ Inv-loop net₀ p n d₀ net d = (d ≤ n) × (net ≡ inRow routeGone net₀ p 
 abbrev μ-loop : tie.MeasureT-loop
 μ-loop net₀ p n d₀ net d = n - d
 
--- src/lib.rt:47:5
 loop-holds : tie.Need-loop-holds Inv-loop μ-loop
 unfolding inRow
 loop-holds c = (omega arith, refl, refl)
 
--- src/lib.rt:48:13
 route-requires : tie.Need-route-requires Inv-loop μ-loop
 route-requires c κs = omega arith
 
--- src/lib.rt:48:9
 slice-write-net : tie.Need-slice-write-net Inv-loop μ-loop
 slice-write-net c = omega (arith, c .route .ensures)
 
--- src/lib.rt:49:9
 add-d : tie.Need-add-d Inv-loop μ-loop
 add-d c = omega arith
 
--- src/lib.rt:47:5
 loop-less : tie.Need-loop-less Inv-loop μ-loop
 loop-less c = omega arith
 
--- src/lib.rt:47:5
 loop-again : tie.Need-loop-again Inv-loop μ-loop
 unfolding routeGone splice
 loop-again c = let l = c .before .before .loop in
     (omega arith, ap (λ k. set (l .net) k 255) (c .route .ensures .0) ∙ row-turn routeGone _ (l .net) (c .before .before .before .before .args .p) (l .d) (l .inv .1), simp length-set (l .inv .2))
 
--- src/lib.rt:42:1
 same-length : tie.Need-same-length Inv-loop μ-loop
 same-length c = omega arith
 
--- src/lib.rt:42:1
 returns : tie.Need-returns Inv-loop μ-loop
 returns c = let l = c .before .loop in
     let e : l .d ≡ c .before .before .before .args .n = omega arith in

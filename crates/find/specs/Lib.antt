@@ -1,0 +1,2 @@
+-- Finding a group in bytes.
+pub mod Answers
