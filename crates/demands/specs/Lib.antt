@@ -1,0 +1,2 @@
+-- The bytes that a bench can come to.
+pub mod Reached

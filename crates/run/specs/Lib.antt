@@ -1,0 +1,3 @@
+-- A run over bytes.
+pub mod Counts
+pub mod Runs
