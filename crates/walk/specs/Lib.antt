@@ -1,0 +1,2 @@
+-- The reach list in bytes.
+pub mod Walks
