@@ -22,16 +22,6 @@ put-turn l xs s i e =
     more : part (i + 1) xs 0 ≡ part i xs 0 ++ (getD xs i 0 ∷ [])
     more = part-add i 1 xs 0 ∙ ap (λ (k : ℕ). part i xs 0 ++ part 1 xs k) (zero-add i) ∙ unfold part in refl
 
--- as many bytes as there are take the place of all
-pub splice-whole : (l vs : List ℕ) → length vs ≡ length l → splice l 0 vs ≡ vs
-splice-whole l vs n =
-    sym (part-all (splice l 0 vs)) ∙ ap (λ (k : ℕ). part k (splice l 0 vs) 0) (length-splice l 0 vs ∙ sym n) ∙ part-splice l 0 vs (omega arith)
-
-pub zeros : (n i : ℕ) → part n [] i ≡ replicate n 0
-unfolding part
-zeros zero i = refl
-zeros (suc n) i = ap (λ (r : List ℕ). 0 ∷ r) (zeros n (suc i))
-
 module _ {A : Type 0} (put : A → ℕ → ℕ → A) where
   pub row-turn : (x s : A) (i m : ℕ) → s ≡ inRow put x i m → put s i m ≡ inRow put x i (m + 1)
   unfolding inRow

@@ -5,25 +5,13 @@ use layout::place;
 use protocol::Entry;
 ghost use mathlib.Core.Path.{_≡_};
 ghost use Prim.Native.Nat.{_≤_, _<_};
-ghost use lib.ListN.{length, replicate};
+ghost use lib.ListN.{length};
 ghost use Rattle.bits.specs.Parts.{splice};
 ghost use Rattle.protocol.specs.Net.{mostStations, mostGroups};
 ghost use Rattle.protocol.specs.Fresh.{blank};
 ghost use Rattle.layout.specs.Layout.{netLength, planLength, stations, groups};
 ghost use Rattle.fresh.specs.Fresh.{freshOutcome, freshLeaves};
 ghost use Rattle.fresh.specs.Laying.{inRow, inRows, routeGone, entryBlank, laid};
-
-// Every byte becomes zero.
-fn clear(s: &mut [u8])
-    ensures { λ _. ⌜ now (s .exit) ≡ replicate (length (now (s .entry))) 0 ⌝ }
-{
-    let n = s.len();
-    let mut i = 0;
-    while i < n {
-        s[i] = 0;
-        i += 1;
-    }
-}
 
 // The bytes of one list, at the front of another.
 fn copy(from: &[u8], to: &mut [u8])
@@ -112,7 +100,7 @@ fn lay(plan: &[u8], net: &mut [u8])
     ensures { λ _. ⌜ now (net .exit) ≡ laid (now (plan .entry)) ⌝ }
 {
     let n = plan[5];
-    clear(net);
+    layout::stretch::fill(net, 0);
     copy(plan, net);
     put32(net, 0, 15728);
     routes(net, wide(n));

@@ -13,8 +13,8 @@ use Rattle.fresh.proofs.lay.Tie as tie
 shared-slice-read-n : tie.Need-shared-slice-read-n
 shared-slice-read-n c = search needs
 
-clear-requires : tie.Need-clear-requires
-clear-requires c κs = search needs
+fill-requires : tie.Need-fill-requires
+fill-requires c κs = search needs
 
 copy-requires : tie.Need-copy-requires
 copy-requires c κs = search needs
@@ -43,7 +43,7 @@ same-length c = search needs
 returns : tie.Need-returns
 unfolding laid planLaid
 returns c = let p = c .before .before .before .before .before .before .before .before .before .before .before .before .before .before .before .before .before .before .before .before .before .before .before .before .before .before .args .plan .now in
-    let zeros = c .before .before .before .before .before .before .before .before .before .before .before .before .before .before .before .before .before .before .before .before .before .clear .ensures ∙ ap (λ (k : ℕ). replicate k 0) (c .before .before .before .before .before .before .before .before .before .before .before .before .before .before .before .before .before .before .before .before .before .before .before .before .before .before .pre .3) in
+    let zeros = c .before .before .before .before .before .before .before .before .before .before .before .before .before .before .before .before .before .before .before .before .before .fill .ensures ∙ ap (λ (k : ℕ). replicate k 0) (c .before .before .before .before .before .before .before .before .before .before .before .before .before .before .before .before .before .before .before .before .before .before .before .before .before .before .pre .3) in
     let front = c .before .before .before .before .before .before .before .before .before .before .before .before .before .put32 .ensures ∙ ap (λ (l : List ℕ). splice l 0 (bytes 4 15728)) (c .before .before .before .before .before .before .before .before .before .before .before .before .before .before .before .before .before .copy .ensures ∙ ap (λ (l : List ℕ). splice l 0 p) zeros) in
     let routed = c .before .before .before .before .before .before .before .before .routes .ensures ∙ (λ i. inRows routeGone (front i) (c .before .before .before .before .before .before .before .before .before .wide .ensures .0 i) (c .before .before .before .before .before .before .before .before .before .wide .ensures .0 i)) in
     c .before .before .entries .ensures ∙ (λ i. inRows entryBlank (routed i) (c .before .before .before .wide2 .ensures .0 i) (stations p))
@@ -53,7 +53,7 @@ lay-spec =
     tie.close
     (tie.spec
     shared-slice-read-n
-    clear-requires
+    fill-requires
     copy-requires
     put32-requires
     wide-requires

@@ -1,0 +1,39 @@
+-- A call in bytes: what is told, the answer that tells it, and the list that it leaves.
+use mathlib.Core.Path.{_≡_}
+use mathlib.Core.Bool.{cond}
+use mathlib.Core.List.{List}
+use Prim.Native.Nat.{ℕ, zero, suc}
+use lib.Dec.{eqb}
+use lib.ListN.{length}
+use Rattle.protocol.specs.Calls as book
+use Rattle.shape.specs.Shape.{shaped}
+use Rattle.net.specs.View.{view}
+use Rattle.walk.specs.Walks.{wire, listLength}
+use Rattle.call.specs.declared.Answer.{Answer}
+use Rattle.call.specs.declared.Answer.the-variants.{Reached, Refused}
+
+-- the outcome's number, the number reached and the copies of each answer: "a refusal returns its number with zeros for every
+-- other result"
+abbrev pub toldOf : Answer → book.Called
+toldOf (Reached r k) = record { outcome = 0; reached = r; copies = k }
+toldOf (Refused n) = record { outcome = n; reached = 0; copies = 0 }
+
+-- the answer that tells an outcome: 0 is never refused
+abbrev pub answerBy : ℕ → ℕ → ℕ → Answer
+answerBy zero r k = Reached r k
+answerBy (suc n) r k = Refused (suc n)
+
+unfoldable pub answerOf : book.Called → Answer
+answerOf c = answerBy (c .outcome) (c .reached) (c .copies)
+
+-- 1: "the net is not 15,728 bytes or not well shaped"; then 3, 10 and 8
+unfoldable pub calledIn : List ℕ → ℕ → ℕ → ℕ → book.Called
+calledIn l g c size = cond (shaped l) (book.called (view l) g c (eqb size listLength)) (record { outcome = 1; reached = 0; copies = 0 })
+
+-- the reach list, and on a refusal the list as it was
+unfoldable pub listLeaves : List ℕ → ℕ → ℕ → List ℕ → List ℕ
+listLeaves l g c out = cond (eqb (calledIn l g c (length out) .outcome) 0) (wire (book.reachList (view l) g)) out
+
+pub record Called (l : List ℕ) (g c : ℕ) (out : List ℕ) (r : Answer) (out′ : List ℕ) : Type 0 where
+  pub answer : r ≡ answerOf (calledIn l g c (length out))
+  pub list : out′ ≡ listLeaves l g c out

@@ -1,0 +1,2 @@
+-- A call in bytes.
+pub mod Answers
