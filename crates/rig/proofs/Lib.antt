@@ -1,0 +1,3 @@
+-- The laws of the C face.
+pub mod Words
+pub mod Runs

@@ -1,0 +1,46 @@
+-- An answer and its word: the outcome in the lowest byte, the further values in the next ones.
+use mathlib.Core.Path.{_≡_, sym, ap, _∙_}
+use mathlib.Core.List.{List}
+use Prim.Native.Nat.{ℕ, _+_, _*_}
+use native.Mathlib.Omega.{arith}
+use Rattle.find.specs.Answers as found
+use Rattle.find.specs.declared.Answer as find
+use Rattle.find.specs.declared.Answer.the-variants.{Group, Refused}
+use Rattle.find.proofs.Told as find-laws
+use Rattle.call.specs.Answers as called
+use Rattle.call.specs.declared.Answer as call
+use Rattle.call.specs.declared.Answer.the-variants as answer
+use Rattle.call.proofs.Told as call-laws
+use Rattle.rig.specs.Face.{foundWord, calledWord}
+
+module _ (l w : List ℕ) (a : find.Answer) (e : a ≡ found.answerOf (found.foundIn l w)) where
+  found-told : foundWord (found.toldOf a) ≡ foundWord (found.foundIn l w)
+  found-told = ap (λ (x : find.Answer). foundWord (found.toldOf x)) e ∙ ap foundWord (find-laws.told l w)
+
+  pub word-group : (g : ℕ) → a ≡ Group g → 256 * g ≡ foundWord (found.foundIn l w)
+  word-group g is = one ∙ ap (λ (x : find.Answer). foundWord (found.toldOf x)) (sym is) ∙ found-told
+    where
+      one : 256 * g ≡ foundWord (found.toldOf (Group g))
+      one = unfold foundWord in omega arith
+
+  pub word-unfound : (k : ℕ) → a ≡ Refused k → k ≡ foundWord (found.foundIn l w)
+  word-unfound k is = one ∙ ap (λ (x : find.Answer). foundWord (found.toldOf x)) (sym is) ∙ found-told
+    where
+      one : k ≡ foundWord (found.toldOf (Refused k))
+      one = unfold foundWord in omega arith
+
+module _ (l : List ℕ) (g c size : ℕ) (a : call.Answer) (e : a ≡ called.answerOf (called.calledIn l g c size)) where
+  called-told : calledWord (called.toldOf a) ≡ calledWord (called.calledIn l g c size)
+  called-told = ap (λ (x : call.Answer). calledWord (called.toldOf x)) e ∙ ap calledWord (call-laws.told l g c size)
+
+  pub word-reached : (r k : ℕ) → a ≡ answer.Reached r k → 256 * r + 65536 * k ≡ calledWord (called.calledIn l g c size)
+  word-reached r k is = one ∙ ap (λ (x : call.Answer). calledWord (called.toldOf x)) (sym is) ∙ called-told
+    where
+      one : 256 * r + 65536 * k ≡ calledWord (called.toldOf (answer.Reached r k))
+      one = unfold calledWord in omega arith
+
+  pub word-uncalled : (n : ℕ) → a ≡ answer.Refused n → n ≡ calledWord (called.calledIn l g c size)
+  word-uncalled n is = one ∙ ap (λ (x : call.Answer). calledWord (called.toldOf x)) (sym is) ∙ called-told
+    where
+      one : n ≡ calledWord (called.toldOf (answer.Refused n))
+      one = unfold calledWord in omega arith

@@ -1,0 +1,41 @@
+-- The C face: a result as one number, the outcome in its lowest byte; the tally as bytes; a run into a tally of bytes.
+use mathlib.Core.Path.{_≡_}
+use mathlib.Core.Bool.{cond}
+use mathlib.Core.List.{List, _++_}
+use Prim.Native.Nat.{ℕ, _+_, _*_}
+use lib.Dec.{eqb}
+use lib.ListN.{length}
+use Rattle.bits.specs.Numbers.{bytes}
+use Rattle.protocol.specs.declared.Tally.{Tally}
+use Rattle.protocol.specs.Steps.{orElse}
+use Rattle.protocol.specs.Runs.{scriptOutcome, run}
+use Rattle.protocol.specs.Names.{Found}
+use Rattle.protocol.specs.Calls.{Called}
+use Rattle.shape.specs.Shape.{shaped}
+use Rattle.net.specs.View.{view}
+use Rattle.net.specs.Encode.{bytesOf}
+
+-- "the tally 20, five counts of 4 bytes in the order above"
+abbrev pub tallyLength : ℕ
+tallyLength = 20
+
+unfoldable pub tallyBytes : Tally → List ℕ
+tallyBytes t = bytes 4 (t .accepted) ++ bytes 4 (t .refused) ++ bytes 4 (t .sent) ++ bytes 4 (t .delivered) ++ bytes 4 (t .lost)
+
+-- "Tests are made in rising number": 1, 10 for a tally of another size, then 11 and 12, of the script
+unfoldable pub runOutcome : List ℕ → List ℕ → ℕ → ℕ
+runOutcome l s size = orElse (shaped l) 1 (orElse (eqb size tallyLength) 10 (scriptOutcome s))
+
+-- what a run of script s answers, and leaves of the net l and the tally t
+pub record Ran (l s t : List ℕ) (r : ℕ) (l' t' : List ℕ) : Type 0 where
+  pub outcome : r ≡ runOutcome l s (length t)
+  pub net : l' ≡ cond (eqb (runOutcome l s (length t)) 0) (bytesOf (run (view l) s .net)) l
+  pub tally : t' ≡ cond (eqb (runOutcome l s (length t)) 0) (tallyBytes (run (view l) s .tally)) t
+
+-- the outcome, and the group in the next byte
+unfoldable pub foundWord : Found → ℕ
+foundWord f = f .outcome + 256 * f .group
+
+-- the outcome, the number reached in the next byte, the copies in the one after it
+unfoldable pub calledWord : Called → ℕ
+calledWord c = c .outcome + 256 * c .reached + 65536 * c .copies

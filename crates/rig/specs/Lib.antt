@@ -1,0 +1,2 @@
+-- The C face: what its numbers and buffers hold.
+pub mod Face
