@@ -1,9 +1,9 @@
 -- How a call ends: one law for each number; and what an answer tells.
-use mathlib.Core.Path.{_≡_, refl, sym, ap, _∙_}
+use mathlib.Core.Path.{_≡_, refl}
 use mathlib.Core.Logic.{_≢_}
 use mathlib.Core.Bool.{true, false, _&&_}
 use mathlib.Core.List.{List}
-use Prim.Native.Nat.{ℕ, suc, _+_, _-_, _<_}
+use Prim.Native.Nat.{ℕ, suc, _-_, _<_}
 use native.Mathlib.Omega.{arith}
 use lib.Dec.{ltb}
 use lib.ListN.{length}
@@ -21,9 +21,8 @@ use Rattle.net.specs.View.{view}
 use Rattle.net.proofs.Seen.{seen}
 use Rattle.cells.specs.Ready.{Ready}
 use Rattle.walk.specs.Walks.{wire, listLength}
-use Rattle.call.specs.declared.Answer.{Answer}
 use Rattle.call.specs.declared.Answer.the-variants.{Reached, Refused}
-use Rattle.call.specs.Answers.{toldOf, answerOf, calledIn, listLeaves, Called}
+use Rattle.call.specs.Answers.{answerOf, calledIn, listLeaves, Called}
 
 -- a group and a station of the net, as the test has them
 pub both-in : (N : Net) (g c : ℕ) → g < N .groups → c < N .stations → (group? N g && station? N c) ≡ true

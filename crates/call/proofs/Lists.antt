@@ -4,15 +4,14 @@ use mathlib.Core.List.{List, [], _∷_, _++_}
 use Prim.Native.Nat.{ℕ, zero, suc, _+_, _-_, _*_, _≤_, _<_}
 use native.Mathlib.Nat.{sub-zero, zero-sub, suc-sub-suc, zero-add}
 use native.Mathlib.Omega.{arith}
-use lib.ListN.{length, take, drop, replicate, length-replicate}
-use lib.Seq.{sets, sets-eq}
+use lib.ListN.{length, drop, replicate, length-replicate}
+use lib.Seq.{sets-eq}
 use Rattle.bits.specs.Parts.{splice}
 use Rattle.tree.specs.declared.Reach.{Reach}
 use Rattle.tree.specs.Tree.{Tree}
 use Rattle.tree.specs.Reach.{reach}
-use Rattle.protocol.specs.Net.{Net, nil, mostStations}
+use Rattle.protocol.specs.Net.{mostStations}
 use Rattle.protocol.specs.Calls.{treeOf, noReach, reachList}
-use Rattle.protocol.specs.Shaped.{Shaped}
 use Rattle.protocol.proofs.Calls.{reach-few}
 use Rattle.net.specs.View.{view}
 use Rattle.net.proofs.Seen.{seen}

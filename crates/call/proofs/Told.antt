@@ -9,7 +9,6 @@ use Rattle.protocol.specs.Net.{Net}
 use Rattle.protocol.specs.Calls.{callOutcome, called}
 use Rattle.shape.specs.Shape.{shaped}
 use Rattle.net.specs.View.{view}
-use Rattle.walk.specs.Walks.{listLength}
 use Rattle.call.specs.Answers.{toldOf, answerBy, answerOf, calledIn}
 
 told-refusal : (o : ℕ) → eqb o 0 ≡ false → toldOf (answerBy o 0 0) ≡ record { outcome = o; reached = 0; copies = 0 }
@@ -21,6 +20,6 @@ unfolding called answerOf
 told-called N g c fits = by-bool (eqb (callOutcome N g c fits) 0)
     (λ t. rw t refl) (λ f. rw f (told-refusal (callOutcome N g c fits) f))
 
-pub told : (l : List ℕ) (g c size : ℕ) → toldOf (answerOf (calledIn l g c size)) ≡ calledIn l g c size
+pub told : (l : List ℕ) (g c : ℕ) (fits : Bool) → toldOf (answerOf (calledIn l g c fits)) ≡ calledIn l g c fits
 unfolding calledIn answerOf
-told l g c size = by-bool (shaped l) (λ s. rw s (told-called (view l) g c (eqb size listLength))) (λ s. rw s)
+told l g c fits = by-bool (shaped l) (λ s. rw s (told-called (view l) g c fits)) (λ s. rw s)

@@ -1,6 +1,6 @@
 -- A call in bytes: what is told, the answer that tells it, and the list that it leaves.
 use mathlib.Core.Path.{_≡_}
-use mathlib.Core.Bool.{cond}
+use mathlib.Core.Bool.{Bool, cond}
 use mathlib.Core.List.{List}
 use Prim.Native.Nat.{ℕ, zero, suc}
 use lib.Dec.{eqb}
@@ -26,14 +26,14 @@ answerBy (suc n) r k = Refused (suc n)
 unfoldable pub answerOf : book.Called → Answer
 answerOf c = answerBy (c .outcome) (c .reached) (c .copies)
 
--- 1: "the net is not 15,728 bytes or not well shaped"; then 3, 10 and 8
-unfoldable pub calledIn : List ℕ → ℕ → ℕ → ℕ → book.Called
-calledIn l g c size = cond (shaped l) (book.called (view l) g c (eqb size listLength)) (record { outcome = 1; reached = 0; copies = 0 })
+-- 1: "the net is not 15,728 bytes or not well shaped"; then 3, 10 unless the lent list is of the stated size, and 8
+unfoldable pub calledIn : List ℕ → ℕ → ℕ → Bool → book.Called
+calledIn l g c fits = cond (shaped l) (book.called (view l) g c fits) (record { outcome = 1; reached = 0; copies = 0 })
 
 -- the reach list, and on a refusal the list as it was
 unfoldable pub listLeaves : List ℕ → ℕ → ℕ → List ℕ → List ℕ
-listLeaves l g c out = cond (eqb (calledIn l g c (length out) .outcome) 0) (wire (book.reachList (view l) g)) out
+listLeaves l g c out = cond (eqb (calledIn l g c (eqb (length out) listLength) .outcome) 0) (wire (book.reachList (view l) g)) out
 
 pub record Called (l : List ℕ) (g c : ℕ) (out : List ℕ) (r : Answer) (out′ : List ℕ) : Type 0 where
-  pub answer : r ≡ answerOf (calledIn l g c (length out))
+  pub answer : r ≡ answerOf (calledIn l g c (eqb (length out) listLength))
   pub list : out′ ≡ listLeaves l g c out

@@ -1,5 +1,6 @@
 -- An answer and its word: the outcome in the lowest byte, the further values in the next ones.
 use mathlib.Core.Path.{_≡_, sym, ap, _∙_}
+use mathlib.Core.Bool.{Bool}
 use mathlib.Core.List.{List}
 use Prim.Native.Nat.{ℕ, _+_, _*_}
 use native.Mathlib.Omega.{arith}
@@ -29,17 +30,17 @@ module _ (l w : List ℕ) (a : find.Answer) (e : a ≡ found.answerOf (found.fou
       one : k ≡ foundWord (found.toldOf (Refused k))
       one = unfold foundWord in omega arith
 
-module _ (l : List ℕ) (g c size : ℕ) (a : call.Answer) (e : a ≡ called.answerOf (called.calledIn l g c size)) where
-  called-told : calledWord (called.toldOf a) ≡ calledWord (called.calledIn l g c size)
-  called-told = ap (λ (x : call.Answer). calledWord (called.toldOf x)) e ∙ ap calledWord (call-laws.told l g c size)
+module _ (l : List ℕ) (g c : ℕ) (fits : Bool) (a : call.Answer) (e : a ≡ called.answerOf (called.calledIn l g c fits)) where
+  called-told : calledWord (called.toldOf a) ≡ calledWord (called.calledIn l g c fits)
+  called-told = ap (λ (x : call.Answer). calledWord (called.toldOf x)) e ∙ ap calledWord (call-laws.told l g c fits)
 
-  pub word-reached : (r k : ℕ) → a ≡ answer.Reached r k → 256 * r + 65536 * k ≡ calledWord (called.calledIn l g c size)
+  pub word-reached : (r k : ℕ) → a ≡ answer.Reached r k → 256 * r + 65536 * k ≡ calledWord (called.calledIn l g c fits)
   word-reached r k is = one ∙ ap (λ (x : call.Answer). calledWord (called.toldOf x)) (sym is) ∙ called-told
     where
       one : 256 * r + 65536 * k ≡ calledWord (called.toldOf (answer.Reached r k))
       one = unfold calledWord in omega arith
 
-  pub word-uncalled : (n : ℕ) → a ≡ answer.Refused n → n ≡ calledWord (called.calledIn l g c size)
+  pub word-uncalled : (n : ℕ) → a ≡ answer.Refused n → n ≡ calledWord (called.calledIn l g c fits)
   word-uncalled n is = one ∙ ap (λ (x : call.Answer). calledWord (called.toldOf x)) (sym is) ∙ called-told
     where
       one : n ≡ calledWord (called.toldOf (answer.Refused n))

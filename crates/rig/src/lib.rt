@@ -2,7 +2,9 @@
 use bits::number::put32;
 use protocol::Tally;
 ghost use mathlib.Core.Path.{_≡_};
+ghost use lib.Dec.{eqb};
 ghost use lib.ListN.{length};
+ghost use Rattle.walk.specs.Walks.{listLength};
 ghost use Rattle.fresh.specs.Fresh.{freshOutcome, freshLeaves};
 ghost use Rattle.step.specs.Stepped.{stepOutcome, stepLeaves};
 ghost use Rattle.find.specs.Answers.{foundIn};
@@ -72,7 +74,7 @@ pub extern "C" fn kep_find(net: &[u8], name: &[u8]) -> u32
 
 #[no_mangle]
 pub extern "C" fn kep_call(net: &[u8], group: u8, station: u8, list: &mut [u8]) -> u32
-    ensures { λ r. ⌜ (r ≡ calledWord (calledIn (now (net .entry)) group station (length (now (list .entry))))) × (now (list .exit) ≡ listLeaves (now (net .entry)) group station (now (list .entry))) ⌝ }
+    ensures { λ r. ⌜ (r ≡ calledWord (calledIn (now (net .entry)) group station (eqb (length (now (list .entry))) listLength))) × (now (list .exit) ≡ listLeaves (now (net .entry)) group station (now (list .entry))) ⌝ }
 {
     let called = call::call(net, group, station, list);
     match called {

@@ -1,0 +1,2 @@
+// A run and a call into records that the caller lends.
+pub mod counts;
