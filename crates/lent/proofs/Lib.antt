@@ -1,0 +1,3 @@
+-- The laws of lent records.
+pub mod Filled
+pub mod Walks
