@@ -50,7 +50,9 @@ use Rattle.run.proofs.Ran as R
 use Rattle.run.proofs.Ran.Laws as R′
 use Rattle.run.proofs.run_over as ro
 use Rattle.run.proofs.run_over.Symbol as ro-def
+use Rattle.run.proofs.run_over.Symbol.{name as #run·run-over}
 use Rattle.run.proofs.run_over.Met as ro-thm
+use Rattle.lent.proofs.counts.run.Key.{name as #lent·run}
 use Rattle.lent.proofs.counts.run as f
 use Rattle.lent.proofs.counts.run.Statement as stated
 use Rattle.lent.proofs.counts.run.Code as code

@@ -61,10 +61,13 @@ use Rattle.lent.proofs.list.Walk as K
 use Rattle.lent.proofs.list.Walk.Laws as K′
 use Rattle.lent.proofs.list.walked as cv
 use Rattle.lent.proofs.list.walked.Symbol as cv-def
+use Rattle.lent.proofs.list.walked.Symbol.{name as #list·walked}
 use Rattle.lent.proofs.list.walked.Met as cv-thm
 use Rattle.lent.proofs.list.line as line
 use Rattle.lent.proofs.list.line.Symbol as line-def
+use Rattle.lent.proofs.list.line.Symbol.{name as #list·line}
 use Rattle.lent.proofs.list.line.Met as line-thm
+use Rattle.lent.proofs.list.call.Key.{name as #list·call}
 use Rattle.lent.proofs.list.call as f
 use Rattle.lent.proofs.list.call.Statement as stated
 use Rattle.lent.proofs.list.call.Code as code
