@@ -1,6 +1,7 @@
 -- Laws of parts and splices.
 --     part-splice, part-splice-out    what a splice puts in, and what it leaves alone
 --     numberAt-add                    a number of two widths joined
+--     wrote-then                      one thing put after another
 --     part-lent, put-whole, lent-back what a part that is lent holds, and what the whole is when it comes back
 use mathlib.Core.Path.{_≡_, refl, sym, ap, ap₂, _∙_}
 use mathlib.Core.List.{List, [], _∷_, _++_, append-assoc}
@@ -8,10 +9,10 @@ use mathlib.Core.Logic.{_⊎_, inl, inr, ⊎-elim}
 use Prim.Native.Nat.{ℕ, zero, suc, _+_, _*_, _^_, _≤_, _<_}
 use native.Mathlib.Nat.{zero-add, add-zero, add-suc, suc-add}
 use native.Mathlib.Omega.{arith}
-use lib.ListN.{length, getD, take, drop, set, length-set, length-drop, take-append-drop}
+use lib.ListN.{length, getD, take, drop, set, length-set, length-drop, length-append, take-append-drop}
 use lib.Seq.{sets, sets-eq, length-take-le, length-sets, getD-set-same, getD-set-other, getD-take, getD-drop, ext-getD, take-set-lt, take-set-le, drop-set-lt, drop-set-add, drop-drop}
 use Rattle.bits.specs.Numbers.{onto, number, bytes}
-use Rattle.bits.specs.Parts.{part, numberAt, splice}
+use Rattle.bits.specs.Parts.{part, numberAt, splice, Wrote}
 use Rattle.bits.proofs.Numbers.{Bytes, number-lt, bytes-number, onto-append, onto-split}
 
 -- ---- the elements of a splice, one by one
@@ -152,3 +153,14 @@ unfolding splice
 put-whole a k xs ys n h =
     let e : drop k (drop a xs) ≡ drop (a + length ys) xs = drop-drop k a xs ∙ ap (λ (m : ℕ). drop (a + m) xs) (sym n) in
     ap (λ (zs : List ℕ). take a xs ++ (ys ++ zs)) e ∙ sym (append-assoc (take a xs) ys (drop (a + length ys) xs)) ∙ sym (sets-eq ys xs a (omega arith))
+
+-- nothing put, and one thing put after another
+pub wrote-none : (o : List ℕ) (i : ℕ) → Wrote o o i i []
+unfolding splice
+wrote-none o i = record { next = omega arith; bytes = refl }
+
+pub wrote-then : {o o′ o″ : List ℕ} {i r r′ : ℕ} {xs ys : List ℕ} → Wrote o o′ i r xs → Wrote o′ o″ r r′ ys → Wrote o o″ i r′ (xs ++ ys)
+wrote-then {o} {o′} {o″} {i} {r} {r′} {xs} {ys} f g = record {
+  next = g .next ∙ (omega (arith, f .next, length-append xs ys));
+  bytes = g .bytes ∙ (λ k. splice (f .bytes k) (f .next k) ys) ∙ splice-append o i xs ys;
+}

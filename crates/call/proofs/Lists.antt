@@ -6,7 +6,7 @@ use native.Mathlib.Nat.{sub-zero, zero-sub, suc-sub-suc, zero-add}
 use native.Mathlib.Omega.{arith}
 use lib.ListN.{length, drop, replicate, length-replicate}
 use lib.Seq.{sets-eq}
-use Rattle.bits.specs.Parts.{splice}
+use Rattle.bits.specs.Parts.{splice, Wrote}
 use Rattle.tree.specs.declared.Reach.{Reach}
 use Rattle.tree.specs.Tree.{Tree}
 use Rattle.tree.specs.Reach.{reach}
@@ -16,7 +16,7 @@ use Rattle.protocol.proofs.Calls.{reach-few}
 use Rattle.net.specs.View.{view}
 use Rattle.net.proofs.Seen.{seen}
 use Rattle.cells.specs.Ready.{Ready}
-use Rattle.walk.specs.Walks.{wire, listLength, stationBytes, Fit, Wrote}
+use Rattle.walk.specs.Walks.{wire, listLength, stationBytes, Fit}
 use Rattle.walk.proofs.Visits.{wire-append}
 
 pub length-wire : (l : List Reach) → length (wire l) ≡ 3 * length l

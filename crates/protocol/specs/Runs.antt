@@ -42,8 +42,11 @@ after N s zero = record { net = N; tally = noTally }
 after N s (suc i) = then (after N s i) (getD s (4 * i) 0) (getD s (4 * i + 1) 0) (getD s (4 * i + 2) 0) (getD s (4 * i + 3) 0)
 
 -- 11: "script length is not a multiple of 4"; 12: "script longer than 16,384 bytes"
+unfoldable pub lengthOutcome : ℕ → ℕ
+lengthOutcome n = orElse (eqb (n % 4) 0) 11 (orElse (leb n 16384) 12 0)
+
 unfoldable pub scriptOutcome : List ℕ → ℕ
-scriptOutcome s = orElse (eqb (length s % 4) 0) 11 (orElse (leb (length s) 16384) 12 0)
+scriptOutcome s = lengthOutcome (length s)
 
 -- "The run takes every step in turn." A refused run takes none
 unfoldable pub run : Net → List ℕ → Ran

@@ -4,7 +4,7 @@ use protocol::Tally;
 ghost use mathlib.Core.Path.{_≡_};
 ghost use Prim.Native.Nat.{_/_, _≤_};
 ghost use lib.ListN.{length};
-ghost use Rattle.protocol.specs.Runs.{noTally, after};
+ghost use Rattle.protocol.specs.Runs.{noTally, lengthOutcome, after};
 ghost use Rattle.net.specs.View.{view};
 ghost use Rattle.net.specs.Encode.{bytesOf};
 ghost use Rattle.cells.specs.Ready.{Ready};
@@ -46,6 +46,19 @@ fn count(mut t: Tally, d: Done) -> Tally
     t
 }
 
+// What a script of n bytes is refused with, or 0.
+pub fn script_outcome(n: usize) -> u8
+    ensures { λ r. ⌜ (r ≡ lengthOutcome n) × (lengthOutcome n ≡ 0 → n ≤ 16384) ⌝ }
+{
+    if n % 4 != 0 {
+        return 11;
+    }
+    if n > 16384 {
+        return 12;
+    }
+    0
+}
+
 // Every step of the script, on bytes that are a net's: the shape is tested by the caller, once.
 pub fn run_in(net: &mut [u8], script: &[u8]) -> Tally
     requires { ⌜ Ready (now net) ⌝ }
@@ -80,15 +93,10 @@ pub fn run_over(net: &mut [u8], script: &[u8], old: Tally) -> Ran
             tally: old,
         };
     }
-    if script.len() % 4 != 0 {
+    let k = script_outcome(script.len());
+    if k != 0 {
         return Ran {
-            outcome: 11,
-            tally: old,
-        };
-    }
-    if script.len() > 16384 {
-        return Ran {
-            outcome: 12,
+            outcome: k,
             tally: old,
         };
     }

@@ -11,14 +11,14 @@ use native.Mathlib.Nat.{sub-zero, sub-self}
 use native.Mathlib.Numerals.{add-one, sub-one}
 use native.Mathlib.Omega.{arith}
 use lib.ListN.{length, length-append}
-use Rattle.bits.specs.Parts.{splice}
-use Rattle.bits.proofs.Parts.{length-splice, splice-append}
+use Rattle.bits.specs.Parts.{splice, Wrote}
+use Rattle.bits.proofs.Parts.{length-splice, splice-append, wrote-then}
 use Rattle.tree.specs.declared.Reach.{Reach}
 use Rattle.tree.specs.Tree.{Tree, agreed}
 use Rattle.tree.specs.Reach.{keep, picked, visits, visit}
 use Rattle.protocol.specs.Calls.{treeOf}
 use Rattle.net.specs.View.{view}
-use Rattle.walk.specs.Walks.{wire, stationBytes, childrenBytes, listLength, Fit, Wrote}
+use Rattle.walk.specs.Walks.{wire, stationBytes, childrenBytes, listLength, Fit}
 
 pub wire-append : (a b : List Reach) → wire (a ++ b) ≡ wire a ++ wire b
 unfolding wire
@@ -99,10 +99,7 @@ module _ (l : List ℕ) (g e d : ℕ) where
   pub both-wrote : (o o′ o″ : List ℕ) (p j at r r′ : ℕ) → j < view l .stations → agreed t p j ≡ true → Wrote o o′ at r (stationBytes t d e j)
       → Wrote o′ o″ r r′ (childrenBytes t d e p (j + 1)) → Wrote o o″ at r′ (childrenBytes t d e p j)
   unfolding treeOf
-  both-wrote o o′ o″ p j at r r′ lt a W X = record {
-    next = omega (arith, W .next, X .next, length-take p j lt a);
-    bytes = X .bytes ∙ rw (W .bytes, W .next, children-take t d e p j lt a) (splice-append o at (stationBytes t d e j) (childrenBytes t d e p (j + 1)));
-  }
+  both-wrote o o′ o″ p j at r r′ lt a W X = rw (children-take t d e p j lt a) (wrote-then W X)
 
   -- the next station is not agreed
   pub skip-fit : (o : List ℕ) (p j at : ℕ) → j < view l .stations → agreed t p j ≡ false → Fit l o g p e d at (childrenBytes t d e p j) → Fit l o g p e d at (childrenBytes t d e p (j + 1))

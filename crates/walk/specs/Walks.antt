@@ -3,7 +3,6 @@ use mathlib.Core.Path.{_≡_}
 use mathlib.Core.List.{List, [], _∷_}
 use Prim.Native.Nat.{ℕ, _+_, _-_, _≤_, _<_}
 use lib.ListN.{length}
-use Rattle.bits.specs.Parts.{splice}
 use Rattle.tree.specs.declared.Reach.{Reach}
 use Rattle.tree.specs.Tree.{Tree, agreed}
 use Rattle.tree.specs.Reach.{picked, visits, visit}
@@ -33,8 +32,3 @@ pub record Fit (net out : List ℕ) (g p depth allowance at : ℕ) (bs : List �
   pub long : length out ≡ listLength
   pub deep : depth + allowance ≤ 16
   pub room : at + length bs ≤ listLength
-
--- what both visits leave: the bytes bs from `at` on, and nothing else changed
-pub record Wrote (out out′ : List ℕ) (at r : ℕ) (bs : List ℕ) : Type 0 where
-  pub next : r ≡ at + length bs
-  pub bytes : out′ ≡ splice out at bs

@@ -3,13 +3,13 @@ ghost use mathlib.Core.Path.{_≡_};
 ghost use mathlib.Core.List.{[], _∷_};
 ghost use Prim.Native.Nat.{_+_, _≤_, _<_};
 ghost use lib.ListN.{length};
-ghost use Rattle.bits.specs.Parts.{splice};
+ghost use Rattle.bits.specs.Parts.{splice, Wrote};
 ghost use Rattle.tree.specs.Tree.{agreed, onTree};
 ghost use Rattle.protocol.specs.Net.{Net};
 ghost use Rattle.protocol.specs.Calls.{treeOf};
 ghost use Rattle.net.specs.View.{view};
 ghost use Rattle.cells.specs.Ready.{Ready};
-ghost use Rattle.walk.specs.Walks.{stationBytes, childrenBytes, Fit, Wrote};
+ghost use Rattle.walk.specs.Walks.{stationBytes, childrenBytes, Fit};
 
 // Whether p is the parent of j, and lists it.
 fn agree(net: &[u8], g: u8, p: u8, j: u8) -> bool

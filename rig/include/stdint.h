@@ -1,0 +1,17 @@
+/* Of x86-64, for a machine without its C headers: see link.sh. */
+#ifndef KEP_STDINT_H
+#define KEP_STDINT_H
+
+typedef __INT8_TYPE__ int8_t;
+typedef __INT16_TYPE__ int16_t;
+typedef __INT32_TYPE__ int32_t;
+typedef __INT64_TYPE__ int64_t;
+typedef __UINT8_TYPE__ uint8_t;
+typedef __UINT16_TYPE__ uint16_t;
+typedef __UINT32_TYPE__ uint32_t;
+typedef __UINT64_TYPE__ uint64_t;
+typedef __UINTPTR_TYPE__ uintptr_t;
+#define UINT32_MAX 4294967295u
+#define SIZE_MAX __SIZE_MAX__
+
+#endif

@@ -1,0 +1,87 @@
+//! The five functions of the C face, over byte slices. A result's lowest byte is the outcome; further values stand
+//! above it. A refusal changes no byte.
+
+use crate::call::{encode_list, flood, is_on_the_tree, reach_list};
+use crate::layout::*;
+use crate::net::Net;
+use crate::outcome::*;
+use crate::plan::Plan;
+use crate::shape::{decode, encode};
+use crate::step::Step;
+
+pub fn fresh(plan: &[u8], net: &mut [u8]) -> u32 {
+    number(try_fresh(plan, net))
+}
+
+pub fn step(net: &mut [u8], one: Step) -> u32 {
+    number(try_step(net, one))
+}
+
+pub fn run(net: &mut [u8], script: &[u8], tally: &mut [u8]) -> u32 {
+    number(try_run(net, script, tally))
+}
+
+pub fn find(net: &[u8], name: &[u8]) -> u32 {
+    number(try_find(net, name))
+}
+
+pub fn call(net: &[u8], group: u8, station: u8, list: &mut [u8]) -> u32 {
+    number(try_call(net, group, station, list))
+}
+
+fn number(answer: Result<u32, Outcome>) -> u32 {
+    match answer {
+        Ok(values) => values << 8 | u32::from(ACCEPTED),
+        Err(refusal) => u32::from(refusal),
+    }
+}
+
+/// Tests 10, then 9.
+fn try_fresh(plan: &[u8], net: &mut [u8]) -> Result<u32, Outcome> {
+    demand(net.len() == NET_BYTES, SIZE)?;
+    let plan = Plan::decode(plan).ok_or(PLAN_NOT_WELL_SHAPED)?;
+    net.copy_from_slice(&encode(&crate::fresh::fresh(plan)));
+    Ok(0)
+}
+
+/// Tests 1, then those of the step.
+fn try_step(bytes: &mut [u8], one: Step) -> Result<u32, Outcome> {
+    let mut net = decoded(bytes)?;
+    crate::step::step(&mut net, one)?;
+    bytes.copy_from_slice(&encode(&net));
+    Ok(0)
+}
+
+/// Tests 1, 10, 11, 12.
+fn try_run(bytes: &mut [u8], script: &[u8], tally: &mut [u8]) -> Result<u32, Outcome> {
+    let mut net = decoded(bytes)?;
+    demand(tally.len() == TALLY_BYTES, SIZE)?;
+    demand(script.len() % 4 == 0, SCRIPT_NOT_FOURS)?;
+    demand(script.len() <= SCRIPT_BYTES_MOST, SCRIPT_TOO_LONG)?;
+    tally.copy_from_slice(&crate::run::run(&mut net, script).encode());
+    bytes.copy_from_slice(&encode(&net));
+    Ok(0)
+}
+
+/// Tests 1, then 7.
+fn try_find(bytes: &[u8], name: &[u8]) -> Result<u32, Outcome> {
+    let net = decoded(bytes)?;
+    let group = crate::find::find(&net.plan, name).ok_or(NO_SUCH_GROUP)?;
+    Ok(group as u32)
+}
+
+/// Tests 1, 3, 10, 8.
+fn try_call(bytes: &[u8], group: u8, station: u8, list: &mut [u8]) -> Result<u32, Outcome> {
+    let net = decoded(bytes)?;
+    let (group, station) = (usize::from(group), usize::from(station));
+    demand(group < net.plan.groups.len() && net.plan.is_station(station), OPERAND)?;
+    demand(list.len() == LIST_BYTES, SIZE)?;
+    demand(is_on_the_tree(&net, group, station), NOT_ON_THE_TREE)?;
+    let flood = flood(&net, group, station);
+    list.copy_from_slice(&encode_list(&reach_list(&net, group)));
+    Ok(flood.reached as u32 | (flood.copies as u32) << 8)
+}
+
+fn decoded(bytes: &[u8]) -> Result<Net, Outcome> {
+    decode(bytes).ok_or(NET_NOT_WELL_SHAPED)
+}
