@@ -154,6 +154,18 @@ put-whole a k xs ys n h =
     let e : drop k (drop a xs) ≡ drop (a + length ys) xs = drop-drop k a xs ∙ ap (λ (m : ℕ). drop (a + m) xs) (sym n) in
     ap (λ (zs : List ℕ). take a xs ++ (ys ++ zs)) e ∙ sym (append-assoc (take a xs) ys (drop (a + length ys) xs)) ∙ sym (sets-eq ys xs a (omega arith))
 
+-- one element more
+pub splice-more : (l s : List ℕ) (a i : ℕ) (xs : List ℕ) (v : ℕ) → s ≡ splice l a xs → length xs ≡ i → set s (a + i) v ≡ splice l a (xs ++ (v ∷ []))
+unfolding splice
+splice-more l s a i xs v e n = (λ j. set (e j) (a + sym n j) v) ∙ splice-append l a xs (v ∷ [])
+
+-- the first i elements of xs have been put, and now one more
+pub part-more : (l s : List ℕ) (a i : ℕ) (xs : List ℕ) → s ≡ splice l a (part i xs 0) → set s (a + i) (getD xs i 0) ≡ splice l a (part (i + 1) xs 0)
+part-more l s a i xs e = splice-more l s a i (part i xs 0) (getD xs i 0) e (length-part i xs 0) ∙ ap (splice l a) (sym more)
+  where
+    more : part (i + 1) xs 0 ≡ part i xs 0 ++ (getD xs i 0 ∷ [])
+    more = part-add i 1 xs 0 ∙ ap (λ (k : ℕ). part i xs 0 ++ part 1 xs k) (zero-add i) ∙ unfold part in refl
+
 -- nothing put, and one thing put after another
 pub wrote-none : (o : List ℕ) (i : ℕ) → Wrote o o i i []
 unfolding splice

@@ -1,3 +1,4 @@
-// The ground: big-endian numbers in a slice of bytes, and masks of 16 bits.
+// The ground: big-endian numbers in a slice of bytes, masks of 16 bits, and bytes copied.
+pub mod copy;
 pub mod mask;
 pub mod number;

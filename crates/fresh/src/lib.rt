@@ -1,4 +1,5 @@
 // A fresh net from a plan.
+use bits::copy::put;
 use bits::number::put32;
 use bits::number::wide;
 use layout::place;
@@ -6,25 +7,11 @@ use protocol::Entry;
 ghost use mathlib.Core.Path.{_≡_};
 ghost use Prim.Native.Nat.{_≤_, _<_};
 ghost use lib.ListN.{length};
-ghost use Rattle.bits.specs.Parts.{splice};
 ghost use Rattle.protocol.specs.Net.{mostStations, mostGroups};
 ghost use Rattle.protocol.specs.Fresh.{blank};
 ghost use Rattle.layout.specs.Layout.{netLength, planLength, stations, groups};
 ghost use Rattle.fresh.specs.Fresh.{freshOutcome, freshLeaves};
 ghost use Rattle.fresh.specs.Laying.{inRow, inRows, routeGone, entryBlank, laid};
-
-// The bytes of one list, at the front of another.
-fn copy(from: &[u8], to: &mut [u8])
-    requires { ⌜ length (now from) ≤ length (now to) ⌝ }
-    ensures { λ _. ⌜ now (to .exit) ≡ splice (now (to .entry)) 0 (now (from .entry)) ⌝ }
-{
-    let n = from.len();
-    let mut i = 0;
-    while i < n {
-        to[i] = from[i];
-        i += 1;
-    }
-}
 
 // Station p has no route to any of the n stations.
 fn routes_from(net: &mut [u8], p: usize, n: usize)
@@ -101,7 +88,7 @@ fn lay(plan: &[u8], net: &mut [u8])
 {
     let n = plan[5];
     layout::stretch::fill(net, 0);
-    copy(plan, net);
+    put(net, 0, plan);
     put32(net, 0, 15728);
     routes(net, wide(n));
     entries(net, wide(plan[6]), n);

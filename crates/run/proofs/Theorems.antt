@@ -1,6 +1,7 @@
 -- What a run does to the bytes.
 --     refused-leaves    a refused run leaves every byte
 --     leaves-after      an accepted run of a net leaves the bytes of the net after all its steps, and they show it
+--     run-shows         accepted or not, the bytes of a net are left as those of the book's run; and run-tells, its tally
 --     run-in-turn       they are the bytes that the steps leave, taken one by one
 --     run-conserves     "Messages waiting at the start plus sent equal delivered plus lost plus waiting at the end"
 --     run-counts        every step is counted, as accepted or as refused
@@ -12,10 +13,11 @@ use native.Mathlib.Omega.{arith}
 use lib.Dec.{eqb}
 use lib.ListN.{length, getD}
 use borrow.Author.Tests.{eq-eqb}
+use Rattle.bits.proofs.Cases.{by-bool}
 use Rattle.protocol.specs.declared.Tally.{Tally}
 use Rattle.protocol.specs.Net.{Net, inChannels}
 use Rattle.protocol.specs.Steps.{step}
-use Rattle.protocol.specs.Runs.{Ran, then, after, scriptOutcome, run}
+use Rattle.protocol.specs.Runs.{Ran, noTally, then, after, scriptOutcome, run}
 use Rattle.protocol.proofs.Steps.{orElse-pass}
 use Rattle.protocol.proofs.Theorems as book
 use Rattle.shape.specs.Shape.{shaped}
@@ -53,6 +55,15 @@ module _ (l s : List ℕ) where
       let w = passed o in
       let e : runLeaves l s ≡ bytesOf (after (view l) s steps .net) = rw (eq-eqb (runOutcome l s) 0 o) (ap (λ (R : Ran). bytesOf (R .net)) (run-all (w .1))) in
       (e, ap view e ∙ after-stands (w .0) steps .1)
+
+  -- in any case, of a net: the bytes left are a net's, and show the run
+  pub run-shows : shaped l ≡ true → (shaped (runLeaves l s) ≡ true) × (view (runLeaves l s) ≡ run (view l) s .net)
+  unfolding runLeaves runOutcome run after
+  run-shows h = by-bool (eqb (scriptOutcome s) 0) (λ t. rw (h, t) (after-stands h steps)) (λ f. rw (h, f) (h, refl))
+
+  pub run-tells : shaped l ≡ true → runTally l s noTally ≡ run (view l) s .tally
+  unfolding runTally runOutcome run after
+  run-tells h = by-bool (eqb (scriptOutcome s) 0) (λ t. rw (h, t) refl) (λ f. rw (h, f) refl)
 
   pub run-in-turn : shaped l ≡ true → (i : ℕ) → bytesOf (after (view l) s i .net) ≡ inTurn l s i
   unfolding after then inTurn

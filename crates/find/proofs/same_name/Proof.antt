@@ -16,7 +16,7 @@ abbrev μ-loop : tie.MeasureT-loop
 μ-loop a b n ok₀ i₀ ok i = n - i
 
 returns : tie.Need-returns Inv-loop μ-loop
-returns c = other-length _ _ (c .if1 .taken)
+returns c = other-length _ _ (λ e. omega (arith, e, c .if1 .taken))
 
 loop-holds : tie.Need-loop-holds Inv-loop μ-loop
 loop-holds c = (omega arith, all-none _)

@@ -16,8 +16,8 @@ shared-slice-read-n c = search needs
 fill-requires : tie.Need-fill-requires
 fill-requires c κs = search needs
 
-copy-requires : tie.Need-copy-requires
-copy-requires c κs = search needs
+put-requires : tie.Need-put-requires
+put-requires c κs = search needs
 
 put32-requires : tie.Need-put32-requires
 put32-requires c κs = search needs
@@ -44,7 +44,7 @@ returns : tie.Need-returns
 unfolding laid planLaid
 returns c = let p = c .before .before .before .before .before .before .before .before .before .before .before .before .before .before .before .before .before .before .before .before .before .before .before .before .before .before .args .plan .now in
     let zeros = c .before .before .before .before .before .before .before .before .before .before .before .before .before .before .before .before .before .before .before .before .before .fill .ensures ∙ ap (λ (k : ℕ). replicate k 0) (c .before .before .before .before .before .before .before .before .before .before .before .before .before .before .before .before .before .before .before .before .before .before .before .before .before .before .pre .3) in
-    let front = c .before .before .before .before .before .before .before .before .before .before .before .before .before .put32 .ensures ∙ ap (λ (l : List ℕ). splice l 0 (bytes 4 15728)) (c .before .before .before .before .before .before .before .before .before .before .before .before .before .before .before .before .before .copy .ensures ∙ ap (λ (l : List ℕ). splice l 0 p) zeros) in
+    let front = c .before .before .before .before .before .before .before .before .before .before .before .before .before .put32 .ensures ∙ ap (λ (l : List ℕ). splice l 0 (bytes 4 15728)) (c .before .before .before .before .before .before .before .before .before .before .before .before .before .before .before .before .before .put .ensures .bytes ∙ ap (λ (l : List ℕ). splice l 0 p) zeros) in
     let routed = c .before .before .before .before .before .before .before .before .routes .ensures ∙ (λ i. inRows routeGone (front i) (c .before .before .before .before .before .before .before .before .before .wide .ensures .0 i) (c .before .before .before .before .before .before .before .before .before .wide .ensures .0 i)) in
     c .before .before .entries .ensures ∙ (λ i. inRows entryBlank (routed i) (c .before .before .before .wide2 .ensures .0 i) (stations p))
 
@@ -54,7 +54,7 @@ lay-spec =
     (tie.spec
     shared-slice-read-n
     fill-requires
-    copy-requires
+    put-requires
     put32-requires
     wide-requires
     routes-requires

@@ -7,8 +7,6 @@ use Rattle.bits.proofs.Parts.{length-splice}
 use Rattle.layout.proofs.Fills.{fill-turn, splice-whole}
 use Rattle.layout.proofs.stretch.fill.Statement.{statement}
 use Rattle.layout.proofs.stretch.fill.Tie as tie
-use Rattle.layout.proofs.stretch.fill.Reads as reads
-use Rattle.layout.proofs.stretch.fill.Lts as lts
 
 abbrev Inv-loop : tie.InvT-loop
 Inv-loop s₀ v n i₀ s i = (i ≤ n) × (s ≡ splice s₀ 0 (replicate i v)) × (length s ≡ n)
@@ -16,34 +14,27 @@ Inv-loop s₀ v n i₀ s i = (i ≤ n) × (s ≡ splice s₀ 0 (replicate i v)) 
 abbrev μ-loop : tie.MeasureT-loop
 μ-loop s₀ v n i₀ s i = n - i
 
--- src/stretch.rt:38:5
 loop-holds : tie.Need-loop-holds Inv-loop μ-loop
 unfolding splice
 loop-holds c = (omega arith, refl, refl)
 
--- src/stretch.rt:39:9
 slice-write-s : tie.Need-slice-write-s Inv-loop μ-loop
 slice-write-s c = omega arith
 
--- src/stretch.rt:40:9
 add-i : tie.Need-add-i Inv-loop μ-loop
 add-i c = omega arith
 
--- src/stretch.rt:38:5
 loop-less : tie.Need-loop-less Inv-loop μ-loop
 loop-less c = omega arith
 
--- src/stretch.rt:38:5
 loop-again : tie.Need-loop-again Inv-loop μ-loop
 loop-again c = let l = c .before .loop in
     let e = fill-turn (c .before .before .args .s .now) (l .s) (c .before .before .args .v) (l .i) (l .inv .1) in
     (omega arith, e, ap length e ∙ length-splice _ 0 _)
 
--- src/stretch.rt:33:1
 same-length : tie.Need-same-length Inv-loop μ-loop
 same-length c = omega arith
 
--- src/stretch.rt:33:1
 returns : tie.Need-returns Inv-loop μ-loop
 returns c = let l = c .before .loop in
     let e : l .i ≡ length (c .before .before .args .s .now) = omega arith in

@@ -1,0 +1,75 @@
+-- What the program prints from the bytes that it stores is what the bench prints for the whole input.
+use mathlib.Core.Path.{_≡_, refl, ap}
+use mathlib.Core.Bool.{false}
+use mathlib.Core.Logic.{_≢_}
+use mathlib.Core.List.{List, [], _∷_}
+use Prim.Native.Nat.{ℕ, zero, suc, _+_, _-_, _%_, _≤_, _<_}
+use native.Mathlib.Omega.{arith}
+use native.Mathlib.Nat.{add-zero}
+use lib.ListN.{length, take, length-drop}
+use lib.Dec.{eqb, leb}
+use borrow.Author.Tests.{lt-leb, ne-eqb}
+use Rattle.bits.proofs.Cases.{by-lt, clash}
+use Rattle.protocol.specs.Steps.{orElse}
+use Rattle.protocol.proofs.Steps.{orElse-pass}
+use Rattle.protocol.specs.Runs.{lengthOutcome, scriptOutcome}
+use Rattle.layout.specs.Layout.{planLength}
+use Rattle.plan.specs.Planned.{planShaped}
+use Rattle.listing.specs.Bench.{planOf, scriptOf, storedLength, benchOutcome, benchText, storedOutcome, storedText}
+
+take-all : (k : ℕ) (l : List ℕ) → length l ≤ k → take k l ≡ l
+take-all zero [] h = refl
+take-all zero (x ∷ l) h = absurd (omega (arith, h))
+take-all (suc k) [] h = refl
+take-all (suc k) (x ∷ l) h = ap (x ∷_) (take-all k l (omega arith))
+
+take-take : (j k : ℕ) (l : List ℕ) → j ≤ k → take j (take k l) ≡ take j l
+take-take zero k l h = refl
+take-take (suc j) zero l h = absurd (omega (arith, h))
+take-take (suc j) (suc k) [] h = refl
+take-take (suc j) (suc k) (x ∷ l) h = ap (x ∷_) (take-take j k l (omega arith))
+
+length-take : (k : ℕ) (l : List ℕ) → k ≤ length l → length (take k l) ≡ k
+length-take zero l h = refl
+length-take (suc k) [] h = absurd (omega (arith, h))
+length-take (suc k) (x ∷ l) h = ap suc (length-take k l (omega arith))
+
+too-long : (n : ℕ) → 16384 < n → lengthOutcome n ≢ 0
+unfolding lengthOutcome
+too-long n h e =
+    let w = orElse-pass (eqb (n % 4) 0) 11 (orElse (leb n 16384) 12 0) 0 (λ i. omega arith) e .1 in
+    clash (orElse-pass (leb n 16384) 12 0 0 (λ i. omega arith) w .0) (lt-leb n 16384 h)
+
+module _ (input : List ℕ) (k : ℕ) (size : k ≡ planLength + 16384) where
+  -- all of the input is stored
+  all-stored : length input ≤ k → storedText (take k input) (length input - k) ≡ benchText input
+  unfolding storedText storedOutcome benchText benchOutcome scriptOutcome
+  all-stored h =
+      let none : length input - k ≡ 0 = omega arith in
+      rw (take-all k input h, none, add-zero) refl
+
+  -- the script is too long, or not of whole steps: its bytes do not matter
+  module _ (h : k < length input) where
+    abbrev stored : List ℕ
+    stored = take k input
+
+    same-plan : planOf stored ≡ planOf input
+    same-plan = take-take planLength k input (omega arith)
+
+    same-length : length (scriptOf stored) + (length input - k) ≡ length (scriptOf input)
+    same-length = omega (arith, length-drop planLength stored, length-drop planLength input, length-take k input (omega arith))
+
+    same-outcome : storedOutcome stored (length input - k) ≡ benchOutcome input
+    unfolding storedOutcome benchOutcome scriptOutcome
+    same-outcome = λ i. orElse (planShaped (same-plan i)) 9 (lengthOutcome (same-length i))
+
+    refused : eqb (benchOutcome input) 0 ≡ false
+    unfolding benchOutcome scriptOutcome
+    refused = ne-eqb _ 0 (λ e. too-long (length (scriptOf input)) (omega (arith, length-drop planLength input)) (orElse-pass (planShaped (planOf input)) 9 _ 0 (λ i. omega arith) e .1))
+
+    part-stored : storedText stored (length input - k) ≡ benchText input
+    unfolding storedText benchText
+    part-stored = rw (same-outcome, refused) refl
+
+pub whole-input : (input : List ℕ) → storedText (take storedLength input) (length input - storedLength) ≡ benchText input
+whole-input input = by-lt storedLength (length input) (part-stored input storedLength refl) (all-stored input storedLength refl)

@@ -1,0 +1,3 @@
+-- What the bench program prints.
+pub mod Lines
+pub mod Bench

@@ -1,0 +1,3 @@
+// What the bench program prints.
+pub mod lines;
+pub mod report;

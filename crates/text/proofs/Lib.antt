@@ -1,0 +1,2 @@
+-- The laws of text.
+pub mod Digits

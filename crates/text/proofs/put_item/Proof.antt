@@ -1,0 +1,22 @@
+use Rattle.text.specs.Text.{item}
+use native.Mathlib.Omega.{arith}
+use Rattle.bits.proofs.Parts.{wrote-then}
+use borrow.Author.Needs.{needs}
+use Rattle.text.proofs.put_item.Statement.{statement}
+use Rattle.text.proofs.put_item.Tie as tie
+
+put-requires : tie.Need-put-requires
+put-requires c κs = search needs
+
+put-number-requires : tie.Need-put-number-requires
+put-number-requires c κs = search needs
+
+same-length : tie.Need-same-length
+same-length c = search needs
+
+returns : tie.Need-returns
+unfolding item
+returns c = (wrote-then (c .before .before .before .before .before .before .put .ensures) (c .before .before .put-number .ensures .0), omega (arith, c .before .before .before .before .before .before .put .ensures .next, c .before .before .put-number .ensures .1))
+
+pub put-item-spec : {M : Type 1} → statement M
+put-item-spec = tie.close (tie.spec put-requires put-number-requires same-length returns)

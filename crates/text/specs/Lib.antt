@@ -1,0 +1,2 @@
+-- Text in bytes.
+pub mod Text
