@@ -1,0 +1,2 @@
+-- Each public contract settles its result and every lent byte.
+pub mod Settled

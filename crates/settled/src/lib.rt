@@ -1,0 +1,1 @@
+// No code: theorems that each public contract settles what it speaks of.
