@@ -37,7 +37,8 @@ enum {
     KEP_ACCEPTED = 0,
     KEP_NET_NOT_WELL_SHAPED = 1, /* the net is not 15,728 bytes or not well shaped */
     KEP_NO_SUCH_ACTION = 2,      /* the action number is 0 or above 9 */
-    KEP_OPERAND = 3,             /* an operand is out of range, not a neighbour, or unused and not zero */
+    KEP_OPERAND = 3,             /* an operand is out of range, no neighbour where one is asked, a route's own station, or
+                                  * unused and not zero */
     KEP_NOT_ENABLED = 4,         /* the action is not enabled; an empty channel; a position with no message */
     KEP_CLOCK_FULL = 5,          /* tick at clock 4,294,967,295 */
     KEP_CHANNEL_FULL = 6,        /* the channel to be sent on already holds 8 */

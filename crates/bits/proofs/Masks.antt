@@ -98,15 +98,6 @@ has-zero zero = has-low 0
 has-zero (suc j) = has-suc 0 j ∙ has-zero j
 
 -- ---- bounds, for any width
-pub with-lt : (w m j : ℕ) → m < 2 ^ w → j < w → with m j < 2 ^ w
-with-lt zero m j h k = absurd (omega arith)
-with-lt (suc w) m zero h k = rw with-zero (omega arith)
-with-lt (suc w) m (suc j) h k = rw with-suc (let e = with-lt w (m / 2) j (omega arith) (omega arith) in omega arith)
-
-pub without-le : (m j : ℕ) → without m j ≤ m
-without-le m zero = rw without-zero (omega arith)
-without-le m (suc j) = rw without-suc (let e = without-le (m / 2) j in omega arith)
-
 -- ---- two masks are equal where they hold the same
 bit-eq : (a b : ℕ) → eqb (a % 2) 1 ≡ eqb (b % 2) 1 → a % 2 ≡ b % 2
 bit-eq a b e = go (eqb (b % 2) 1) refl

@@ -73,11 +73,6 @@ bytes-of-slots most w [] h = let z : 0 ≡ 1 + most * w = h .len in absurd (omeg
 bytes-of-slots most w (k ∷ t) h =
     rw (length-slots w k t, flat-slots w k t (used-le most w k t h), ← body-clear most w k t h, take-append-drop)
 
-pub sized-in-use : (most w : ℕ) (b : List ℕ) → Queue most w b → Sized w (inUse w b)
-unfolding inUse
-sized-in-use most w [] h = let z : 0 ≡ 1 + most * w = h .len in absurd (omega arith)
-sized-in-use most w (k ∷ t) h = sized-slots w k t (used-le most w k t h)
-
 pub used-and-free : (most w k : ℕ) → k ≤ most → k * w + (most - k) * w ≡ most * w
 used-and-free most w k h = rw (← add-mul k (most - k) w, add-sub-of-le h)
 
@@ -96,10 +91,6 @@ pub removeAt-split : {A : Type 0} (xs : List A) (m : A) (ys : List A) → remove
 unfolding removeAt
 removeAt-split [] m ys = refl
 removeAt-split (x ∷ xs) m ys = rw (removeAt-split xs m ys)
-
-pub sized-append : (w : ℕ) (xs ys : List (List ℕ)) → Sized w xs → Sized w ys → Sized w (xs ++ ys)
-sized-append w [] ys h g = g
-sized-append w (x ∷ xs) ys h g = (h .0, sized-append w xs ys (h .1) g)
 
 pub sized-left : (w : ℕ) (xs ys : List (List ℕ)) → Sized w (xs ++ ys) → Sized w xs
 sized-left w [] ys h = tt

@@ -30,9 +30,6 @@ module _ (N : Net) (H : Shaped N) (s : List ℕ) where
   pub after-ready : (i : ℕ) (l : List ℕ) → l ≡ bytesOf (after N s i .net) → (Ready l) × (view l ≡ after N s i .net)
   after-ready i l e = ready-of (after N s i .net) l (run-shaped N s H i) e
 
-  abbrev kth : ℕ → ℕ → ℕ
-  kth i j = getD s (4 * i + j) 0
-
   pub turn-net : (i : ℕ) (l l' : List ℕ) (d : Done) → l ≡ bytesOf (after N s i .net)
       → Stepped l (getD s (4 * i) 0) (getD s (4 * i + 1) 0) (getD s (4 * i + 2) 0) (getD s (4 * i + 3) 0) d l' → l' ≡ bytesOf (after N s (i + 1) .net)
   unfolding after then

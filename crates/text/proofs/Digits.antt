@@ -11,7 +11,7 @@ use lib.ListN.{length, length-append}
 use borrow.Author.Tests.{lt-ltb, le-ltb}
 use Rattle.bits.specs.Parts.{Wrote}
 use Rattle.bits.proofs.Parts.{wrote-none, wrote-then}
-use Rattle.text.specs.Text.{digitsBy, decimal, each}
+use Rattle.text.specs.Text.{digitsBy, each}
 
 pub one-digit : (most n : ℕ) → 0 < most → n < 10 → digitsBy most n ≡ ((48 + n) ∷ [])
 unfolding digitsBy
@@ -31,10 +31,6 @@ digits-length (suc most) n = pick (ltb n 10) (digits-length most (n / 10))
     pick : (t : Bool) → length (digitsBy most (n / 10)) ≤ most → length (cond t ((48 + n) ∷ []) (digitsBy most (n / 10) ++ ((48 + n % 10) ∷ []))) ≤ suc most
     pick true h = omega arith
     pick false h = simp length-append (omega arith)
-
-pub decimal-length : (n : ℕ) → length (decimal n) ≤ 10
-unfolding decimal
-decimal-length n = digits-length 10 n
 
 -- all digits but the last
 pub fewer : (most n : ℕ) → n < 10 ^ most → 10 ≤ n → (n / 10 < 10 ^ (most - 1)) × (0 < most - 1)
