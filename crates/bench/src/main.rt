@@ -35,8 +35,7 @@ fn main() {
     let mut stored = [0u8; 16496];
     let n = io::read_full(STDIN_FILENO, &mut stored);
     let beyond = count_rest(STDIN_FILENO);
-    let mut net = [0u8; 15728];
     let mut out = [0u8; 16640];
-    let k = listing::report::report(&stored[..n], beyond, &mut net, &mut out);
+    let k = listing::report::report(&stored[..n], beyond, &mut out);
     io::write_all(STDOUT_FILENO, &out[..k]);
 }

@@ -1,4 +1,4 @@
--- An answer tells its outcome and group, and no other answer tells the same.
+-- An answer tells the outcome and the group that were found.
 use mathlib.Core.Path.{_≡_}
 use mathlib.Core.List.{List}
 use Prim.Native.Nat.{ℕ}

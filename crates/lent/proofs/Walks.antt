@@ -21,7 +21,7 @@ use Rattle.call.specs.Answers as call
 use Rattle.call.proofs.Told.{told}
 use Rattle.call.proofs.Lists.{length-wire}
 use Rattle.lent.specs.declared.list.Walk.{Walk}
-use Rattle.lent.specs.Lists.{toldOf, calledOn, listLeaves}
+use Rattle.lent.specs.Lists.{toldOf, calledOn, reachLeaves}
 use Rattle.lent.specs.Walking.{walkOf, lines, filled, Walked}
 use Rattle.lent.proofs.Filled.{filled-none, lines-back}
 
@@ -78,7 +78,7 @@ module _ (l : List ℕ) (g c n : ℕ) (a : Answer) (bs : List ℕ) where
     pub walked-refused : eqb (C .outcome) 0 ≡ false → Walked l g c n k
     walked-refused f =
         let none : k .fill ≡ 0 = fill-is ∙ rw f refl in
-        record { told = told-is; within = (omega arith, omega arith); leaves = λ xs h. (λ i. filled (k .bytes) xs (none i)) ∙ filled-none (k .bytes) xs ∙ sym (unfold listLeaves in rw (h, f) refl) }
+        record { told = told-is; within = (omega arith, omega arith); leaves = λ xs h. (λ i. filled (k .bytes) xs (none i)) ∙ filled-none (k .bytes) xs ∙ sym (unfold reachLeaves in rw (h, f) refl) }
 
     pub walked-reached : eqb (C .outcome) 0 ≡ true → n ≡ mostStations → length bs ≡ listLength → bs ≡ wire L → Walked l g c n k
     walked-reached t sixteen size listed =
@@ -87,7 +87,7 @@ module _ (l : List ℕ) (g c n : ℕ) (a : Answer) (bs : List ℕ) where
         record {
           told = told-is;
           within = (omega arith, omega arith);
-          leaves = λ xs h. (λ i. filled ((bytes-are ∙ listed) i) xs (all i)) ∙ filled-whole L xs 16 long (h ∙ sixteen) ∙ sym (unfold listLeaves in rw (h, t) refl);
+          leaves = λ xs h. (λ i. filled ((bytes-are ∙ listed) i) xs (all i)) ∙ filled-whole L xs 16 long (h ∙ sixteen) ∙ sym (unfold reachLeaves in rw (h, t) refl);
         }
 
 -- the two ways of the walk: into 48 bytes for a list of sixteen, into none for any other

@@ -19,5 +19,5 @@ abbrev pub calledOn : List ℕ → ℕ → ℕ → ℕ → Called
 calledOn l g c n = calledIn l g c (eqb n mostStations)
 
 -- the reach list, and on a refusal the list as it was
-unfoldable pub listLeaves : List ℕ → ℕ → ℕ → List Reach → List Reach
-listLeaves l g c xs = cond (eqb (calledOn l g c (length xs) .outcome) 0) (reachList (view l) g) xs
+unfoldable pub reachLeaves : List ℕ → ℕ → ℕ → List Reach → List Reach
+reachLeaves l g c xs = cond (eqb (calledOn l g c (length xs) .outcome) 0) (reachList (view l) g) xs

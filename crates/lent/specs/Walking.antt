@@ -7,7 +7,7 @@ use Rattle.tree.specs.declared.Reach.{Reach}
 use Rattle.call.specs.declared.Answer.{Answer}
 use Rattle.call.specs.declared.Answer.the-variants.{Reached, Refused}
 use Rattle.lent.specs.declared.list.Walk.{Walk}
-use Rattle.lent.specs.Lists.{toldOf, calledOn, listLeaves}
+use Rattle.lent.specs.Lists.{toldOf, calledOn, reachLeaves}
 
 abbrev pub walkOf : Answer → List ℕ → Walk
 walkOf (Reached r k) bs = record { told = record { outcome = 0; reached = r; copies = k }; fill = 16; bytes = bs }
@@ -30,4 +30,4 @@ filled s xs i = lines s 0 i ++ drop i xs
 pub record Walked (l : List ℕ) (g c n : ℕ) (k : Walk) : Type 0 where
   pub told : k .told ≡ toldOf (calledOn l g c n)
   pub within : (k .fill ≤ n) × (k .fill ≤ 16)
-  pub leaves : (xs : List Reach) → length xs ≡ n → filled (k .bytes) xs (k .fill) ≡ listLeaves l g c xs
+  pub leaves : (xs : List Reach) → length xs ≡ n → filled (k .bytes) xs (k .fill) ≡ reachLeaves l g c xs

@@ -3,7 +3,7 @@ use tree::Reach;
 ghost use mathlib.Core.Path.{_≡_};
 ghost use Prim.Native.Nat.{_<_};
 ghost use lib.ListN.{length};
-ghost use Rattle.lent.specs.Lists.{toldOf, calledOn, listLeaves};
+ghost use Rattle.lent.specs.Lists.{toldOf, calledOn, reachLeaves};
 ghost use Rattle.lent.specs.Walking.{walkOf, lineAt, Walked};
 
 // What a call tells: its outcome number, how many are reached and how many copies are made.
@@ -77,7 +77,7 @@ fn line(k: Walk, i: usize) -> Reach
 // The call of any station of any group in any bytes, into any list of records.
 pub fn call(net: &[u8], g: u8, c: u8, list: &mut [Reach]) -> Told
     ensures { λ r. ⌜ (r ≡ toldOf (calledOn (now (net .entry)) g c (length (now (list .entry)))))
-        × (now (list .exit) ≡ listLeaves (now (net .entry)) g c (now (list .entry))) ⌝ }
+        × (now (list .exit) ≡ reachLeaves (now (net .entry)) g c (now (list .entry))) ⌝ }
 {
     let k = walked(net, g, c, list.len());
     let m = k.fill;

@@ -33,7 +33,7 @@ use Rattle.run.specs.Runs.{ranOver, runLeaves}
 use Rattle.run.proofs.Theorems.{run-shows, run-tells}
 use Rattle.text.specs.Text.{each}
 use Rattle.listing.specs.Lines.{runLine, groupText, listing, refusedText}
-use Rattle.listing.specs.Bench.{planOf, scriptOf, storedOutcome, storedText}
+use Rattle.listing.specs.Bench.{planPart, scriptPart, storedOutcome, storedText}
 
 -- ---- refusals
 take-short : (k : ℕ) (l : List ℕ) → length l < k → length (take k l) ≡ length l
@@ -42,14 +42,14 @@ take-short (suc k) [] h = refl
 take-short (suc k) (x ∷ l) h = ap suc (take-short k l (omega arith))
 
 module _ (stored : List ℕ) (beyond : ℕ) where
-  pub unplanned : planShaped (planOf stored) ≡ false → refusedText 9 ≡ storedText stored beyond
+  pub unplanned : planShaped (planPart stored) ≡ false → refusedText 9 ≡ storedText stored beyond
   unfolding storedText storedOutcome
   unplanned f = rw f refl
 
   pub too-short : length stored < planLength → refusedText 9 ≡ storedText stored beyond
-  too-short h = unplanned (is-false (planShaped (planOf stored)) (λ t. omega (arith, plan-long (planOf stored) t, take-short planLength stored h)))
+  too-short h = unplanned (is-false (planShaped (planPart stored)) (λ t. omega (arith, plan-long (planPart stored) t, take-short planLength stored h)))
 
-  module _ (t : planShaped (planOf stored) ≡ true) (k : ℕ) (judged : k ≡ lengthOutcome (length stored - planLength + beyond)) where
+  module _ (t : planShaped (planPart stored) ≡ true) (k : ℕ) (judged : k ≡ lengthOutcome (length stored - planLength + beyond)) where
     outcome-is : storedOutcome stored beyond ≡ k
     unfolding storedOutcome
     outcome-is = rw t (ap (λ (n : ℕ). lengthOutcome (n + beyond)) (length-drop planLength stored) ∙ sym judged)
@@ -58,13 +58,13 @@ module _ (stored : List ℕ) (beyond : ℕ) where
     unfolding storedText
     bad-script n = rw (outcome-is, ne-eqb k 0 n) refl
 
-    pub accepted : k ≡ 0 → (s : List ℕ) → s ≡ scriptOf stored
-        → listing (run (fresh (planIn (planOf stored))) s .net) (run (fresh (planIn (planOf stored))) s .tally) ≡ storedText stored beyond
+    pub accepted : k ≡ 0 → (s : List ℕ) → s ≡ scriptPart stored
+        → listing (run (fresh (planIn (planPart stored))) s .net) (run (fresh (planIn (planPart stored))) s .tally) ≡ storedText stored beyond
     unfolding storedText
     accepted z s e = rw (outcome-is, eq-eqb k 0 z, e) refl
 
 -- the script, as it is lent
-pub rest-lent : (stored : List ℕ) → take (length stored - planLength) (drop planLength stored) ≡ scriptOf stored
+pub rest-lent : (stored : List ℕ) → take (length stored - planLength) (drop planLength stored) ≡ scriptPart stored
 rest-lent stored = ap (λ (k : ℕ). take k (drop planLength stored)) (sym (length-drop planLength stored)) ∙ take-length (drop planLength stored)
 
 -- ---- the run of a fresh net

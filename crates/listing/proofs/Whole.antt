@@ -1,21 +1,21 @@
 -- What the program prints from the bytes that it stores is what the bench prints for the whole input.
 use mathlib.Core.Path.{_≡_, refl, ap}
 use mathlib.Core.Bool.{false}
-use mathlib.Core.Logic.{_≢_}
 use mathlib.Core.List.{List, [], _∷_}
-use Prim.Native.Nat.{ℕ, zero, suc, _+_, _-_, _%_, _≤_, _<_}
+use Prim.Native.Nat.{ℕ, zero, suc, _+_, _-_, _≤_, _<_}
 use native.Mathlib.Omega.{arith}
 use native.Mathlib.Nat.{add-zero}
 use lib.ListN.{length, take, length-drop}
-use lib.Dec.{eqb, leb}
-use borrow.Author.Tests.{lt-leb, ne-eqb}
-use Rattle.bits.proofs.Cases.{by-lt, clash}
+use lib.Dec.{eqb}
+use borrow.Author.Tests.{ne-eqb}
+use Rattle.bits.proofs.Cases.{by-lt}
 use Rattle.protocol.specs.Steps.{orElse}
 use Rattle.protocol.proofs.Steps.{orElse-pass}
 use Rattle.protocol.specs.Runs.{lengthOutcome, scriptOutcome}
 use Rattle.layout.specs.Layout.{planLength}
 use Rattle.plan.specs.Planned.{planShaped}
-use Rattle.listing.specs.Bench.{planOf, scriptOf, storedLength, benchOutcome, benchText, storedOutcome, storedText}
+use Rattle.run.proofs.Lengths.{length-fits}
+use Rattle.listing.specs.Bench.{planPart, scriptPart, storedLength, benchOutcome, benchText, storedOutcome, storedText}
 
 take-all : (k : ℕ) (l : List ℕ) → length l ≤ k → take k l ≡ l
 take-all zero [] h = refl
@@ -34,12 +34,6 @@ length-take zero l h = refl
 length-take (suc k) [] h = absurd (omega (arith, h))
 length-take (suc k) (x ∷ l) h = ap suc (length-take k l (omega arith))
 
-too-long : (n : ℕ) → 16384 < n → lengthOutcome n ≢ 0
-unfolding lengthOutcome
-too-long n h e =
-    let w = orElse-pass (eqb (n % 4) 0) 11 (orElse (leb n 16384) 12 0) 0 (λ i. omega arith) e .1 in
-    clash (orElse-pass (leb n 16384) 12 0 0 (λ i. omega arith) w .0) (lt-leb n 16384 h)
-
 module _ (input : List ℕ) (k : ℕ) (size : k ≡ planLength + 16384) where
   -- all of the input is stored
   all-stored : length input ≤ k → storedText (take k input) (length input - k) ≡ benchText input
@@ -53,10 +47,10 @@ module _ (input : List ℕ) (k : ℕ) (size : k ≡ planLength + 16384) where
     abbrev stored : List ℕ
     stored = take k input
 
-    same-plan : planOf stored ≡ planOf input
+    same-plan : planPart stored ≡ planPart input
     same-plan = take-take planLength k input (omega arith)
 
-    same-length : length (scriptOf stored) + (length input - k) ≡ length (scriptOf input)
+    same-length : length (scriptPart stored) + (length input - k) ≡ length (scriptPart input)
     same-length = omega (arith, length-drop planLength stored, length-drop planLength input, length-take k input (omega arith))
 
     same-outcome : storedOutcome stored (length input - k) ≡ benchOutcome input
@@ -65,7 +59,8 @@ module _ (input : List ℕ) (k : ℕ) (size : k ≡ planLength + 16384) where
 
     refused : eqb (benchOutcome input) 0 ≡ false
     unfolding benchOutcome scriptOutcome
-    refused = ne-eqb _ 0 (λ e. too-long (length (scriptOf input)) (omega (arith, length-drop planLength input)) (orElse-pass (planShaped (planOf input)) 9 _ 0 (λ i. omega arith) e .1))
+    refused = ne-eqb _ 0 (λ e. let fits = length-fits (length (scriptPart input)) (orElse-pass (planShaped (planPart input)) 9 (lengthOutcome (length (scriptPart input))) 0 (λ i. omega arith) e .1) in
+        omega (arith, fits, length-drop planLength input))
 
     part-stored : storedText stored (length input - k) ≡ benchText input
     unfolding storedText benchText

@@ -13,28 +13,28 @@ use Rattle.net.specs.View.{planIn}
 use Rattle.listing.specs.Lines.{listing, refusedText}
 
 -- "It reads a plan, then a script, from standard input"
-abbrev pub planOf : List ℕ → List ℕ
-planOf input = take planLength input
+abbrev pub planPart : List ℕ → List ℕ
+planPart input = take planLength input
 
-abbrev pub scriptOf : List ℕ → List ℕ
-scriptOf input = drop planLength input
+abbrev pub scriptPart : List ℕ → List ℕ
+scriptPart input = drop planLength input
 
 abbrev pub told : ℕ → Ran → List ℕ
 told k R = cond (eqb k 0) (listing (R .net) (R .tally)) (refusedText k)
 
 -- "Input under 112 bytes gives 9", and so does a plan that is not well shaped; "11 still comes before 12"
 unfoldable pub benchOutcome : List ℕ → ℕ
-benchOutcome input = orElse (planShaped (planOf input)) 9 (scriptOutcome (scriptOf input))
+benchOutcome input = orElse (planShaped (planPart input)) 9 (scriptOutcome (scriptPart input))
 
 unfoldable pub benchText : List ℕ → List ℕ
-benchText input = told (benchOutcome input) (run (fresh (planIn (planOf input))) (scriptOf input))
+benchText input = told (benchOutcome input) (run (fresh (planIn (planPart input))) (scriptPart input))
 
 -- the program stores a plan and the longest script, and counts the rest: the same, where `beyond` more were counted
 abbrev pub storedLength : ℕ
 storedLength = 16496
 
 unfoldable pub storedOutcome : List ℕ → ℕ → ℕ
-storedOutcome stored beyond = orElse (planShaped (planOf stored)) 9 (lengthOutcome (length (scriptOf stored) + beyond))
+storedOutcome stored beyond = orElse (planShaped (planPart stored)) 9 (lengthOutcome (length (scriptPart stored) + beyond))
 
 unfoldable pub storedText : List ℕ → ℕ → List ℕ
-storedText stored beyond = told (storedOutcome stored beyond) (run (fresh (planIn (planOf stored))) (scriptOf stored))
+storedText stored beyond = told (storedOutcome stored beyond) (run (fresh (planIn (planPart stored))) (scriptPart stored))

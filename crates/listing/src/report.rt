@@ -2,11 +2,9 @@
 use crate::lines;
 use bits::copy::put;
 use text::put_item;
-ghost use mathlib.Core.Path.{_≡_};
 ghost use Prim.Native.Nat.{_≤_, _<_};
 ghost use lib.ListN.{length};
 ghost use Rattle.bits.specs.Parts.{Wrote};
-ghost use Rattle.layout.specs.Layout.{netLength};
 ghost use Rattle.listing.specs.Lines.{refusedText};
 ghost use Rattle.listing.specs.Bench.{storedText};
 
@@ -19,22 +17,23 @@ fn refused(out: &mut [u8], k: u8) -> usize
 }
 
 // The report on the bytes that are stored of an input, where `beyond` more were counted.
-pub fn report(stored: &[u8], beyond: usize, net: &mut [u8], out: &mut [u8]) -> usize
-    requires { ⌜ (length (now net) ≡ netLength) × (16640 ≤ length (now out)) × (beyond < 9223372036854775808) ⌝ }
+pub fn report(stored: &[u8], beyond: usize, out: &mut [u8]) -> usize
+    requires { ⌜ (16640 ≤ length (now out)) × (beyond < 9223372036854775808) ⌝ }
     ensures { λ r. ⌜ Wrote (now (out .entry)) (now (out .exit)) 0 r (storedText (now (stored .entry)) beyond) × (r ≤ 16640) ⌝ }
 {
     if stored.len() < 112 {
         return refused(out, 9);
     }
-    if fresh::fresh(&stored[0..112], net) != 0 {
+    let mut net = [0u8; 15728];
+    if fresh::fresh(&stored[0..112], &mut net) != 0 {
         return refused(out, 9);
     }
     let k = run::script_outcome(stored.len() - 112 + beyond);
     if k != 0 {
         return refused(out, k);
     }
-    let ran = run::run(net, &stored[112..]);
+    let ran = run::run(&mut net, &stored[112..]);
     let t = ran.tally;
     let next = lines::run_line(out, 0, t, t.sent - t.delivered - t.lost);
-    lines::groups(net, out, next)
+    lines::groups(&net, out, next)
 }

@@ -1,7 +1,7 @@
 -- A group is found by its full name or not at all.
 --     found-full     where a group is found it is one of the groups, and the name is its full name
 --     found-one      a group is found by its own full name, whatever the other names begin with
---     found-none     where no group has the name, the answer is 7, and else it is not
+--     found-none     where no group has the name, the answer is 7; none-found: and only there
 --     found-short, found-long    an empty name, and one of over 16 bytes, gives 7
 use mathlib.Core.Path.{_≡_, refl, sym, ap, ap₂, _∙_}
 use mathlib.Core.Logic.{_≢_}

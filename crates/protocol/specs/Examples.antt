@@ -93,7 +93,7 @@ examples =
     ∷ eqb (called sole 0 0 true .outcome) 0 ∷ eqb (called sole 0 0 true .reached) 1 ∷ eqb (called sole 0 0 true .copies) 0
     ∷ eqb (called pair 0 1 true .outcome) 8 ∷ eqb (called pair 0 2 true .outcome) 3 ∷ eqb (called pair 0 1 false .outcome) 10
     -- Membership off with a child left: the parent stays. Without: nil
-    ∷ eqb (parentOf (having line (listing ++ (8 ∷ 0 ∷ 1 ∷ 0 ∷ []))) 1) 0
+    ∷ eqb (parentOf (having line (listing ++ (8 ∷ 0 ∷ 1 ∷ 1 ∷ 8 ∷ 0 ∷ 1 ∷ 0 ∷ []))) 1) 0
     ∷ eqb (parentOf (having line (listing ++ (8 ∷ 0 ∷ 2 ∷ 0 ∷ []))) 2) nil
     -- The listing, and a call after it; and the numbers of the actions, from 1 to 9
     ∷ eqb (run line listing .tally .accepted) 13 ∷ eqb (run line listing .tally .refused) 0 ∷ eqb (run line listing .tally .sent) 6

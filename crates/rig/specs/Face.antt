@@ -23,14 +23,14 @@ unfoldable pub tallyBytes : Tally → List ℕ
 tallyBytes t = bytes 4 (t .accepted) ++ bytes 4 (t .refused) ++ bytes 4 (t .sent) ++ bytes 4 (t .delivered) ++ bytes 4 (t .lost)
 
 -- "Tests are made in rising number": 1, 10 for a tally of another size, then 11 and 12, of the script
-unfoldable pub runOutcome : List ℕ → List ℕ → ℕ → ℕ
-runOutcome l s size = orElse (shaped l) 1 (orElse (eqb size tallyLength) 10 (scriptOutcome s))
+unfoldable pub kepRunOutcome : List ℕ → List ℕ → ℕ → ℕ
+kepRunOutcome l s size = orElse (shaped l) 1 (orElse (eqb size tallyLength) 10 (scriptOutcome s))
 
 -- what a run of script s answers, and leaves of the net l and the tally t
-pub record Ran (l s t : List ℕ) (r : ℕ) (l' t' : List ℕ) : Type 0 where
-  pub outcome : r ≡ runOutcome l s (length t)
-  pub net : l' ≡ cond (eqb (runOutcome l s (length t)) 0) (bytesOf (run (view l) s .net)) l
-  pub tally : t' ≡ cond (eqb (runOutcome l s (length t)) 0) (tallyBytes (run (view l) s .tally)) t
+pub record KepRan (l s t : List ℕ) (r : ℕ) (l' t' : List ℕ) : Type 0 where
+  pub outcome : r ≡ kepRunOutcome l s (length t)
+  pub net : l' ≡ cond (eqb (kepRunOutcome l s (length t)) 0) (bytesOf (run (view l) s .net)) l
+  pub tally : t' ≡ cond (eqb (kepRunOutcome l s (length t)) 0) (tallyBytes (run (view l) s .tally)) t
 
 -- the outcome, and the group in the next byte
 unfoldable pub foundWord : Found → ℕ

@@ -11,7 +11,7 @@ ghost use Rattle.find.specs.Answers.{foundIn};
 ghost use Rattle.call.specs.Answers.{calledIn, listLeaves};
 ghost use Rattle.shape.specs.Shape.{shaped};
 ghost use Rattle.protocol.specs.Steps.{orElse};
-ghost use Rattle.rig.specs.Face.{tallyLength, tallyBytes, Ran, foundWord, calledWord};
+ghost use Rattle.rig.specs.Face.{tallyLength, tallyBytes, KepRan, foundWord, calledWord};
 
 #[no_mangle]
 pub extern "C" fn kep_fresh(plan: &[u8], net: &mut [u8]) -> u32
@@ -48,7 +48,7 @@ fn refused_size(net: &[u8]) -> u32
 
 #[no_mangle]
 pub extern "C" fn kep_run(net: &mut [u8], script: &[u8], tally: &mut [u8]) -> u32
-    ensures { λ r. ⌜ Ran (now (net .entry)) (now (script .entry)) (now (tally .entry)) r (now (net .exit)) (now (tally .exit)) ⌝ }
+    ensures { λ r. ⌜ KepRan (now (net .entry)) (now (script .entry)) (now (tally .entry)) r (now (net .exit)) (now (tally .exit)) ⌝ }
 {
     if tally.len() != 20 {
         return refused_size(net);

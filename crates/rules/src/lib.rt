@@ -10,13 +10,13 @@ ghost use Rattle.protocol.specs.Entries as rule;
 
 const NIL: u8 = 255;
 
-pub fn joins(e: Entry) -> bool
+fn joins(e: Entry) -> bool
     ensures { λ r. ⌜ r ≡ rule.joins e ⌝ }
 {
     (e.member == 1) | !(e.children == 0)
 }
 
-pub fn connected(root: u8, p: u8, e: Entry) -> bool
+fn connected(root: u8, p: u8, e: Entry) -> bool
     ensures { λ r. ⌜ r ≡ rule.connected root p e ⌝ }
 {
     (p == root) | !(e.parent == NIL)
@@ -137,7 +137,7 @@ pub fn reply(g: u8, root: u8, p: u8, e: Entry) -> Message
 }
 
 // The test of a reply from s.
-pub fn adopts(e: Entry, s: u8, m: Message) -> bool
+fn adopts(e: Entry, s: u8, m: Message) -> bool
     ensures { λ r. ⌜ r ≡ rule.adopts e s m ⌝ }
 {
     (e.tentative == s) & (m.connected == 1) & (e.clock < m.clock)

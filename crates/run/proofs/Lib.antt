@@ -1,3 +1,4 @@
+pub mod Lengths
 pub mod Few
 pub mod Turns
 pub mod Theorems

@@ -48,7 +48,7 @@ fn count(mut t: Tally, d: Done) -> Tally
 
 // What a script of n bytes is refused with, or 0.
 pub fn script_outcome(n: usize) -> u8
-    ensures { λ r. ⌜ (r ≡ lengthOutcome n) × (lengthOutcome n ≡ 0 → n ≤ 16384) ⌝ }
+    ensures { λ r. ⌜ r ≡ lengthOutcome n ⌝ }
 {
     if n % 4 != 0 {
         return 11;
@@ -60,7 +60,7 @@ pub fn script_outcome(n: usize) -> u8
 }
 
 // Every step of the script, on bytes that are a net's: the shape is tested by the caller, once.
-pub fn run_in(net: &mut [u8], script: &[u8]) -> Tally
+fn run_in(net: &mut [u8], script: &[u8]) -> Tally
     requires { ⌜ Ready (now net) ⌝ }
     requires { ⌜ length (now script) ≤ 16384 ⌝ }
     ensures { λ r. ⌜ (r ≡ after (view (now (net .entry))) (now (script .entry)) (length (now (script .entry)) / 4) .tally)

@@ -1,2 +1,4 @@
--- Each public contract settles its result and every lent byte.
+-- Each public contract settles its result and every lent byte; each refusal is given in its stated case only, and changes nothing.
 pub mod Settled
+pub mod Given
+pub mod Unchanged

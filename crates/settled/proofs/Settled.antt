@@ -66,7 +66,7 @@ module _ (l s : List ℕ) where
   unfolding Settles
   lent-run-settled t x y e f = λ i. (both (e .0) (f .0) i, pairs (x .1) (y .1) (e .1) (f .1) i)
 
-  pub kep-run-settled : (t : List ℕ) → Settles {End = ℕ × (List ℕ × List ℕ)} (λ end. face.Ran l s t (end .0) (end .1 .0) (end .1 .1))
+  pub kep-run-settled : (t : List ℕ) → Settles {End = ℕ × (List ℕ × List ℕ)} (λ end. face.KepRan l s t (end .0) (end .1 .0) (end .1 .1))
   unfolding Settles
   kep-run-settled t x y e f = λ i. (both (e .outcome) (f .outcome) i, (both (e .net) (f .net) i, both (e .tally) (f .tally) i))
 
@@ -84,7 +84,7 @@ module _ (l : List ℕ) (g c : ℕ) where
   call-settled out x y e f = λ i. (both (e .answer) (f .answer) i, both (e .list) (f .list) i)
 
   pub lent-call-settled : (xs : List Reach) → Settles {End = Told × List Reach}
-      (λ end. (end .0 ≡ lent.toldOf (lent.calledOn l g c (length xs))) × (end .1 ≡ lent.listLeaves l g c xs))
+      (λ end. (end .0 ≡ lent.toldOf (lent.calledOn l g c (length xs))) × (end .1 ≡ lent.reachLeaves l g c xs))
   unfolding Settles
   lent-call-settled xs = pairs
 

@@ -1,2 +1,4 @@
--- Two ways for a function to end, of which its contract admits both.
+-- What it is for a contract to settle an end, and the refusal tables.
 pub mod Ways
+pub mod Tests
+pub mod Tables

@@ -1,5 +1,5 @@
 // Whether bytes are a well-shaped net.
-pub mod channels;
-pub mod entries;
-pub mod routes;
+mod channels;
+mod entries;
+mod routes;
 pub mod whole;

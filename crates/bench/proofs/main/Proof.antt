@@ -23,9 +23,6 @@ slice-aggregate-report c = search needs
 slice-aggregate-report-2 : tie.Need-slice-aggregate-report-2
 slice-aggregate-report-2 c = search needs
 
-slice-aggregate-report-3 : tie.Need-slice-aggregate-report-3
-slice-aggregate-report-3 c = search needs
-
 report-requires : tie.Need-report-requires
 report-requires c κs = search needs
 
@@ -33,7 +30,7 @@ array-share-prefix-out : tie.Need-array-share-prefix-out
 array-share-prefix-out c = search needs
 
 slice-aggregate-write-all : tie.Need-slice-aggregate-write-all
-slice-aggregate-write-all c = sym (length-take-le _ _ (omega (arith, c .before .before .before .report .ensures .1, c .before .before .before .report .kept .1 .1 .1 .0)))
+slice-aggregate-write-all c = sym (length-take-le _ _ (omega (arith, c .before .before .report .ensures .1, c .before .before .report .kept .1 .1 .0)))
 
 write-all-requires : tie.Need-write-all-requires
 write-all-requires c κs = search needs
@@ -51,7 +48,6 @@ main-spec =
     array-share-prefix-stored
     slice-aggregate-report
     slice-aggregate-report-2
-    slice-aggregate-report-3
     report-requires
     array-share-prefix-out
     slice-aggregate-write-all

@@ -1,8 +1,4 @@
-use mathlib.Core.Path.{refl, sym, ap}
-use mathlib.Core.Bool.{true≢false}
-use Prim.Native.Nat.{ℕ}
-use lib.Dec.{eqb}
-use native.Mathlib.Omega.{arith}
+use mathlib.Core.Path.{refl}
 use borrow.Author.Tests.{eq-eqb, ne-eqb, le-leb, lt-leb}
 use Rattle.protocol.specs.Runs.{lengthOutcome}
 use Rattle.run.proofs.script_outcome.Statement.{statement}
@@ -10,15 +6,15 @@ use Rattle.run.proofs.script_outcome.Tie as tie
 
 returns : tie.Need-returns
 unfolding lengthOutcome
-returns c = rw (ne-eqb _ 0 (c .if1 .taken)) (refl, λ e. absurd (true≢false (ap (λ (k : ℕ). eqb k 0) (sym e))))
+returns c = rw (ne-eqb _ 0 (c .if1 .taken)) refl
 
 returns-2 : tie.Need-returns-2
 unfolding lengthOutcome
-returns-2 c = rw (eq-eqb _ 0 (c .before .if1 .left), lt-leb _ 16384 (c .if2 .taken)) (refl, λ e. omega (arith, e))
+returns-2 c = rw (eq-eqb _ 0 (c .before .if1 .left), lt-leb _ 16384 (c .if2 .taken)) refl
 
 returns-3 : tie.Need-returns-3
 unfolding lengthOutcome
-returns-3 c = rw (eq-eqb _ 0 (c .before .if1 .left), le-leb _ 16384 (c .if2 .left)) (refl, λ e. omega arith)
+returns-3 c = rw (eq-eqb _ 0 (c .before .if1 .left), le-leb _ 16384 (c .if2 .left)) refl
 
 pub script-outcome-spec : {M : Type 1} → statement M
 script-outcome-spec = tie.close (tie.spec returns returns-2 returns-3)

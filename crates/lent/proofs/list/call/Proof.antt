@@ -50,7 +50,7 @@ use denote.Triple.Walked.{says, Stays, stay-slice, stay-none, stay-none-slice, w
 use denote.Exit.{yes}
 use Rattle.tree.specs.declared.Reach.{Reach}
 use Rattle.lent.specs.declared.list.Walk.{Walk}
-use Rattle.lent.specs.Lists.{listLeaves}
+use Rattle.lent.specs.Lists.{reachLeaves}
 use Rattle.lent.specs.Walking.{lineAt, filled, Walked}
 use Rattle.lent.proofs.Filled.{filled-none, filled-length, filled-more}
 use Rattle.tree.proofs.Reach as R
@@ -167,7 +167,7 @@ module _ {M : Type 1} (𝓤 : URA M) (H : Heap 𝓤) (A : Atoms 𝓤) (W : Given
     said : (i : ℕ) (r : Reach) → ent 𝓤 (ensured 𝓤 H A line.ended (line.clauses 𝓤 H A at-mem run) tt (k, (i, tt)) tt r) (fact 𝓤 (r ≡ lineAt (k .bytes) i))
     said i r = exE 𝓤 _ (λ ws. snd∗ 𝓤 (sem 𝓤 H A (lasts line.ended tt (k, (i, tt)) ws)) (fact 𝓤 (r ≡ lineAt (k .bytes) i)))
 
-    ends : (i : ℕ) → i ≤ m → m ≤ i → L i ≡ listLeaves (x .now) g c xs
+    ends : (i : ℕ) → i ≤ m → m ≤ i → L i ≡ reachLeaves (x .now) g c xs
     ends i le ge = let e : i ≡ m = omega arith in ap L e ∙ ke .leaves xs refl
 
     abbrev Left : ℕ → List (Item 𝓤)
