@@ -2,7 +2,7 @@
 --     refused-leaves    a refused run leaves every byte
 --     leaves-after      an accepted run of a net leaves the bytes of the net after all its steps, and they show it
 --     run-shows         accepted or not, the bytes of a net are left as those of the book's run; and run-tells, its tally
---     run-in-turn       they are the bytes that the steps leave, taken one by one
+--     leaves-in-turn    they are the bytes that the steps leave, taken one by one; run-in-turn: after each step
 --     run-conserves     "Messages waiting at the start plus sent equal delivered plus lost plus waiting at the end"
 --     run-counts        every step is counted, as accepted or as refused
 use mathlib.Core.Path.{_≡_, refl, sym, ap, _∙_}
@@ -73,6 +73,9 @@ module _ (l s : List ℕ) where
       ap (λ (M : Net). bytesOf (step M (getD s (4 * i) 0) (getD s (4 * i + 1) 0) (getD s (4 * i + 2) 0) (getD s (4 * i + 3) 0))) (sym (w .1))
       ∙ sym (leaves-bytes (bytesOf (after (view l) s i .net)) _ _ _ _ (w .0))
       ∙ ap (λ (x : List ℕ). stepLeaves x (getD s (4 * i) 0) (getD s (4 * i + 1) 0) (getD s (4 * i + 2) 0) (getD s (4 * i + 3) 0)) (run-in-turn h i)
+
+  pub leaves-in-turn : runOutcome l s ≡ 0 → runLeaves l s ≡ inTurn l s steps
+  leaves-in-turn o = leaves-after o .0 ∙ run-in-turn (passed o .0) steps
 
   module _ (t : Tally) (o : runOutcome l s ≡ 0) where
     tally-after : runTally l s t ≡ after (view l) s steps .tally

@@ -1,7 +1,7 @@
 -- Each public function's outcome is the one that its refusal table gives, and no other: "each refusal is given in its stated case only".
 use mathlib.Core.Path.{_≡_, refl, sym, _∙_, subst}
-use mathlib.Core.Logic.{_↔_}
-use mathlib.Core.Bool.{Bool}
+use mathlib.Core.Logic.{_↔_, _≢_}
+use mathlib.Core.Bool.{Bool, true}
 use mathlib.Core.List.{List, [], _∷_}
 use Prim.Native.Nat.{ℕ}
 use lib.Dec.{eqb, ltb}
@@ -9,6 +9,7 @@ use lib.ListN.{length}
 use borrow.Author.Tests.{eqb-true}
 use Rattle.bits.proofs.Cases.{by-bool}
 use Rattle.protocol.specs.Steps.{orElse, verdict, outcome}
+use Rattle.protocol.proofs.Steps.{orElse-pass}
 use Rattle.protocol.specs.Runs.{lengthOutcome, scriptOutcome}
 use Rattle.protocol.specs.Names.{firstFrom, sameName, find}
 use Rattle.protocol.specs.Calls.{callOutcome, called}
@@ -39,6 +40,12 @@ given-first : (ts : List Test) (o : ℕ) → Given ts o → o ≡ first ts
 given-first [] o accepted = refl
 given-first (t ∷ ts) o (fails p) = rw p refl
 given-first (t ∷ ts) o (goes-on p g) = rw p (given-first ts o g)
+
+-- of what is accepted, each test passes
+pub passed : (t : Test) (ts : List Test) → t .number ≢ 0 → Given (t ∷ ts) 0 → (t .passes ≡ true) × Given ts 0
+passed t ts n g =
+    let w = orElse-pass (t .passes) (t .number) (first ts) 0 n (sym (given-first (t ∷ ts) 0 g)) in
+    (w .0, subst (Given ts) (w .1) (first-given ts))
 
 -- an outcome that is the first failing test's is the one that the table gives
 exactly : (ts : List Test) (o : ℕ) → o ≡ first ts → (k : ℕ) → (o ≡ k) ↔ Given ts k

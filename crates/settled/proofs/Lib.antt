@@ -2,3 +2,4 @@
 pub mod Settled
 pub mod Given
 pub mod Unchanged
+pub mod Exact

@@ -4,9 +4,11 @@
 --     leaves-plan                 the plan's 112 bytes stay
 --     leaves-groups               no byte of another group's entries changes
 --     route-leaves-groups         action 9 changes no byte of any group's entries
+--     leaves-apart                no entry and no message of another group changes, and its messages keep their order;
+--                                 route-leaves-apart: of no group, by action 9
 --     leaves-channels             no channel's bytes change but of those that the action sends on or takes from
 --     leaves-routes               no route's byte changes but by action 9
-use mathlib.Core.Path.{_≡_, refl, sym, ap, _∙_}
+use mathlib.Core.Path.{_≡_, refl, sym, ap, _∙_, subst}
 use mathlib.Core.Logic.{_≢_}
 use mathlib.Core.Bool.{true, false}
 use mathlib.Core.List.{List, [], _∷_}
@@ -105,6 +107,18 @@ module _ (l : List ℕ) (k a b c : ℕ) where
 
   pub leaves-groups : (o : ℕ) → o < mostGroups → o ≢ groupOf (view l) k a b c → part stretchSize (stepLeaves l k a b c) (stretchAt o) ≡ part stretchSize l (stretchAt o)
   leaves-groups o h n = entries-same o h (step-apart (view l) o k a b c n)
+
+  -- and of what the bytes show
+  shown : (o : ℕ) → Untouched groupIn o (view l) (step (view l) k a b c) → Untouched groupIn o (view l) (view (stepLeaves l k a b c))
+  shown o U = by-bool (shaped l)
+      (λ s. subst (Untouched groupIn o (view l)) (sym (leaves-net s .1)) U)
+      (λ f. subst (λ (x : List ℕ). Untouched groupIn o (view l) (view x)) (sym (not-net f)) (record { entries = λ p. refl; messages = λ s d. refl }))
+
+  pub leaves-apart : (o : ℕ) → o ≢ groupOf (view l) k a b c → Untouched groupIn o (view l) (view (stepLeaves l k a b c))
+  leaves-apart o n = shown o (step-apart (view l) o k a b c n)
+
+pub route-leaves-apart : (l : List ℕ) (a b c o : ℕ) → Untouched groupIn o (view l) (view (stepLeaves l 9 a b c))
+route-leaves-apart l a b c o = shown l 9 a b c o (route-apart (view l) o a b c)
 
 pub route-leaves-groups : (l : List ℕ) (a b c o : ℕ) → o < mostGroups → part stretchSize (stepLeaves l 9 a b c) (stretchAt o) ≡ part stretchSize l (stretchAt o)
 route-leaves-groups l a b c o h = entries-same l 9 a b c o h (route-apart (view l) o a b c)
