@@ -5,6 +5,7 @@ pub mod Shown
 pub mod Seen
 pub mod Whole
 pub mod Back
+pub mod PlanPasses
 pub mod Passes
 pub mod Puts
 pub mod Same

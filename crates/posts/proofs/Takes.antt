@@ -8,7 +8,8 @@ use Rattle.protocol.specs.Net.{Net, setEntry, setChannel, takeAt}
 use Rattle.protocol.specs.Entries.{listing}
 use Rattle.protocol.specs.Rules.{oldest, room?}
 use Rattle.protocol.specs.Shaped.{Shaped}
-use Rattle.protocol.proofs.Shapes.{near-cable, oldest-good, take-shaped, answer-entry, taken-room}
+use Rattle.protocol.proofs.Keeps.{near-cable, oldest-good, answer-entry, taken-room}
+use Rattle.protocol.proofs.Shapes.{take-shaped}
 use Rattle.net.specs.View.{view}
 use Rattle.net.specs.Encode.{bytesOf}
 use Rattle.cells.specs.Ready.{Ready}

@@ -14,7 +14,7 @@ use Rattle.protocol.specs.Rules.{Rule, oldest, tick, ask, refresh, answe
 use Rattle.protocol.specs.Steps.{rule}
 use Rattle.protocol.specs.Shaped.{All, none, both, Shaped}
 use Rattle.protocol.proofs.Maps.{upd-hit, upd-miss, length-snoc, length-removed}
-use Rattle.protocol.proofs.Shapes.{cable, near-cable, ask-near, refresh-near}
+use Rattle.protocol.proofs.Keeps.{cable, near-cable, ask-near, refresh-near}
 use Rattle.protocol.proofs.Steps.{Passed, each-rule}
 
 -- a sum of which one term changes

@@ -8,6 +8,8 @@ pub mod Held
 pub mod Steps
 pub mod Actions
 pub mod Shapes
+pub mod Puts
+pub mod Keeps
 pub mod Room
 pub mod Kept
 pub mod Aparts

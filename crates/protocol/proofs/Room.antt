@@ -21,7 +21,7 @@ use Rattle.protocol.specs.Shaped.{All, none, both, GoodMessage, Shaped}
 use Rattle.protocol.proofs.Messages.{bit-le, isOf-true}
 use Rattle.protocol.proofs.Held.{HeldIn}
 use Rattle.protocol.proofs.Actions.{idle, fewer}
-use Rattle.protocol.proofs.Shapes.{oldest-good}
+use Rattle.protocol.proofs.Keeps.{oldest-good}
 use Rattle.protocol.proofs.Steps.{orElse-pass, each-rule}
 
 -- the messages of a group in a list

@@ -26,7 +26,8 @@ use Rattle.protocol.specs.Sound.{Sound, SoundNet}
 use Rattle.protocol.specs.Demands.{Demand3, KeepsParents}
 use Rattle.protocol.proofs.Held.{HeldIn, sound-held, held-sound}
 use Rattle.protocol.proofs.Actions.{step-held}
-use Rattle.protocol.proofs.Shapes.{fresh-shaped, step-shaped}
+use Rattle.protocol.proofs.Shapes.{fresh-shaped}
+use Rattle.protocol.proofs.Keeps.{step-shaped}
 use Rattle.protocol.proofs.Steps.{orElse-pass, accepted, step-plan, refused-same}
 use Rattle.protocol.proofs.Messages.{isOf-group, no-replies}
 use Rattle.protocol.proofs.Kept.{step-keeps-parents}

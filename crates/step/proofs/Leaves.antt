@@ -23,7 +23,7 @@ use Rattle.protocol.specs.Fresh.{Plan, planOf}
 use Rattle.protocol.specs.Steps.{outcome, step}
 use Rattle.protocol.specs.Apart.{groupIn, Untouched, groupOf, uses}
 use Rattle.protocol.proofs.Steps.{step-plan, refused-same}
-use Rattle.protocol.proofs.Shapes.{step-shaped}
+use Rattle.protocol.proofs.Keeps.{step-shaped}
 use Rattle.protocol.proofs.Aparts.{step-apart, route-apart, step-channels, step-routes}
 use Rattle.channel.specs.Messages.{channelSize, channelBytes}
 use Rattle.layout.specs.Layout.{netLength, routeAt, entrySize, stretchSize, stretchAt, entryAt, channelAt}

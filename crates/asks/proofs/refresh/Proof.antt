@@ -16,7 +16,7 @@ use Rattle.net.specs.Encode.{bytesOf}
 use Rattle.net.proofs.Seen.{seen}
 use Rattle.act.proofs.Ends.{ends-3, ends-4, ends-6, ends-0}
 use Rattle.act.proofs.InRange.{station-in}
-use Rattle.protocol.proofs.Shapes.{cable, refresh-near, refresh-entry}
+use Rattle.protocol.proofs.Keeps.{cable, refresh-near, refresh-entry}
 use Rattle.protocol.specs.Rules.{Rule}
 use borrow.Author.Needs.{needs}
 use Rattle.asks.proofs.refresh.Statement.{statement}

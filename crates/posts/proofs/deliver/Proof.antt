@@ -15,7 +15,7 @@ use Rattle.net.specs.View.{view}
 use Rattle.net.specs.Encode.{bytesOf}
 use Rattle.net.proofs.Seen.{seen}
 use Rattle.act.proofs.Ends.{ends-3, ends-4, ends-6}
-use Rattle.protocol.proofs.Shapes.{near-cable}
+use Rattle.protocol.proofs.Keeps.{near-cable}
 use Rattle.protocol.specs.Rules.{Rule}
 use Rattle.protocol.specs.Rules.{answered, heard}
 use Rattle.posts.specs.Oldest.{Oldest}
