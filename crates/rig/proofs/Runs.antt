@@ -2,17 +2,13 @@
 use mathlib.Core.Path.{_≡_, refl, sym, ap, _∙_}
 use mathlib.Core.Logic.{_≢_}
 use mathlib.Core.Bool.{cond}
-use mathlib.Core.List.{List, _++_}
-use Prim.Native.Nat.{ℕ, _+_}
+use mathlib.Core.List.{List}
+use Prim.Native.Nat.{ℕ}
 use lib.Dec.{eqb}
 use lib.ListN.{length}
 use borrow.Author.Tests.{eq-eqb, ne-eqb}
 use Rattle.bits.specs.Numbers.{bytes}
-use Rattle.bits.specs.Parts.{splice}
-use Rattle.bits.proofs.Parts.{splice-append}
 use Rattle.bits.proofs.Cases.{by-bool}
-use Rattle.layout.proofs.Fills.{splice-whole}
-use Rattle.protocol.specs.declared.Tally.{Tally}
 use Rattle.protocol.specs.Steps.{orElse}
 use Rattle.protocol.specs.Runs.{noTally, run}
 use Rattle.shape.specs.Shape.{shaped}
@@ -20,18 +16,8 @@ use Rattle.net.specs.View.{view}
 use Rattle.net.specs.Encode.{bytesOf}
 use Rattle.run.specs.declared.Ran as byvalue
 use Rattle.run.specs.Runs as over
-use Rattle.rig.specs.Face.{tallyLength, tallyBytes, kepRunOutcome, KepRan}
-
-next : (l : List ℕ) (a k : ℕ) (xs ys : List ℕ) → k ≡ a + length xs → splice (splice l a xs) k ys ≡ splice l a (xs ++ ys)
-next l a k xs ys e = ap (λ (z : ℕ). splice (splice l a xs) z ys) e ∙ splice-append l a xs ys
-
--- the five counts, put one after another into any bytes of their length
-pub five-counts : (l : List ℕ) (t : Tally) → length l ≡ tallyLength
-    → splice (splice (splice (splice (splice l 0 (bytes 4 (t .accepted))) 4 (bytes 4 (t .refused))) 8 (bytes 4 (t .sent))) 12 (bytes 4 (t .delivered))) 16 (bytes 4 (t .lost)) ≡ tallyBytes t
-unfolding tallyBytes bytes
-five-counts l t e =
-    next _ 12 16 (bytes 4 (t .delivered)) (bytes 4 (t .lost)) refl ∙ next _ 8 12 (bytes 4 (t .sent)) _ refl ∙ next _ 4 8 (bytes 4 (t .refused)) _ refl
-    ∙ next l 0 4 (bytes 4 (t .accepted)) _ refl ∙ splice-whole l _ (sym e)
+use Rattle.run.specs.Tallies.{tallyLength, tallyBytes}
+use Rattle.rig.specs.Face.{kepRunOutcome, KepRan}
 
 module _ (l s t : List ℕ) where
   pub wrong-size : (r : ℕ) → length t ≢ tallyLength → r ≡ orElse (shaped l) 1 10 → KepRan l s t r l t

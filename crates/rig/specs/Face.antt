@@ -1,12 +1,11 @@
--- The C face: a result as one number, the outcome in its lowest byte; the tally as bytes; a run into a tally of bytes.
+-- The C face: a result as one number, the outcome in its lowest byte; a run into a tally of bytes.
 use mathlib.Core.Path.{_≡_}
 use mathlib.Core.Bool.{cond}
-use mathlib.Core.List.{List, _++_}
+use mathlib.Core.List.{List}
 use Prim.Native.Nat.{ℕ, _+_, _*_}
 use lib.Dec.{eqb}
 use lib.ListN.{length}
 use Rattle.bits.specs.Numbers.{bytes}
-use Rattle.protocol.specs.declared.Tally.{Tally}
 use Rattle.protocol.specs.Steps.{orElse}
 use Rattle.protocol.specs.Runs.{scriptOutcome, run}
 use Rattle.protocol.specs.Names.{Found}
@@ -14,13 +13,7 @@ use Rattle.protocol.specs.Calls.{Called}
 use Rattle.shape.specs.Shape.{shaped}
 use Rattle.net.specs.View.{view}
 use Rattle.net.specs.Encode.{bytesOf}
-
--- "the tally 20, five counts of 4 bytes in the order above"
-abbrev pub tallyLength : ℕ
-tallyLength = 20
-
-unfoldable pub tallyBytes : Tally → List ℕ
-tallyBytes t = bytes 4 (t .accepted) ++ bytes 4 (t .refused) ++ bytes 4 (t .sent) ++ bytes 4 (t .delivered) ++ bytes 4 (t .lost)
+use Rattle.run.specs.Tallies.{tallyLength, tallyBytes}
 
 -- "Tests are made in rising number": 1, 10 for a tally of another size, then 11 and 12, of the script
 unfoldable pub kepRunOutcome : List ℕ → List ℕ → ℕ → ℕ

@@ -1,6 +1,4 @@
 // The C face: every function of the model but the bench program, through numbers and byte buffers (rig/kepalumbi.h).
-use bits::number::put32;
-use protocol::Tally;
 ghost use mathlib.Core.Path.{_≡_};
 ghost use lib.Dec.{eqb};
 ghost use lib.ListN.{length};
@@ -11,7 +9,7 @@ ghost use Rattle.find.specs.Answers.{foundIn};
 ghost use Rattle.call.specs.Answers.{calledIn, listLeaves};
 ghost use Rattle.shape.specs.Shape.{shaped};
 ghost use Rattle.protocol.specs.Steps.{orElse};
-ghost use Rattle.rig.specs.Face.{tallyLength, tallyBytes, KepRan, foundWord, calledWord};
+ghost use Rattle.rig.specs.Face.{KepRan, foundWord, calledWord};
 
 #[no_mangle]
 pub extern "C" fn kep_fresh(plan: &[u8], net: &mut [u8]) -> u32
@@ -25,18 +23,6 @@ pub extern "C" fn kep_step(net: &mut [u8], action: u8, a: u8, b: u8, c: u8) -> u
     ensures { λ r. ⌜ (r ≡ stepOutcome (now (net .entry)) action a b c) × (now (net .exit) ≡ stepLeaves (now (net .entry)) action a b c) ⌝ }
 {
     step::step(net, action, a, b, c) as u32
-}
-
-// The five counts, in document 01's order.
-fn put_tally(out: &mut [u8], t: Tally)
-    requires { ⌜ length (now out) ≡ tallyLength ⌝ }
-    ensures { λ _. ⌜ now (out .exit) ≡ tallyBytes t ⌝ }
-{
-    put32(out, 0, t.accepted);
-    put32(out, 4, t.refused);
-    put32(out, 8, t.sent);
-    put32(out, 12, t.delivered);
-    put32(out, 16, t.lost);
 }
 
 // The refusal of a tally of another size: the net is tested before it.
@@ -57,7 +43,7 @@ pub extern "C" fn kep_run(net: &mut [u8], script: &[u8], tally: &mut [u8]) -> u3
     if ran.outcome != 0 {
         return ran.outcome as u32;
     }
-    put_tally(tally, ran.tally);
+    run::tally::put(tally, ran.tally);
     0
 }
 

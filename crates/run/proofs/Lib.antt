@@ -1,3 +1,4 @@
+pub mod Tallies
 pub mod Lengths
 pub mod Few
 pub mod Turns

@@ -4,6 +4,7 @@
 --     run-shows         accepted or not, the bytes of a net are left as those of the book's run; and run-tells, its tally
 --     leaves-in-turn    they are the bytes that the steps leave, taken one by one; run-in-turn: after each step
 --     run-conserves     "Messages waiting at the start plus sent equal delivered plus lost plus waiting at the end"
+--     tally-after       its tally is that of the steps, whatever it was before
 --     run-counts        every step is counted, as accepted or as refused
 use mathlib.Core.Path.{_≡_, refl, sym, ap, _∙_}
 use mathlib.Core.Bool.{true, false}
@@ -78,7 +79,8 @@ module _ (l s : List ℕ) where
   leaves-in-turn o = leaves-after o .0 ∙ run-in-turn (passed o .0) steps
 
   module _ (t : Tally) (o : runOutcome l s ≡ 0) where
-    tally-after : runTally l s t ≡ after (view l) s steps .tally
+    -- "each set anew by the run": whatever the tally was
+    pub tally-after : runTally l s t ≡ after (view l) s steps .tally
     unfolding runTally
     tally-after = rw (eq-eqb (runOutcome l s) 0 o) (ap (λ (R : Ran). R .tally) (run-all (passed o .1)))
 

@@ -1,3 +1,4 @@
 -- A run over bytes.
 pub mod Counts
 pub mod Runs
+pub mod Tallies

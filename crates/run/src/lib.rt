@@ -1,4 +1,6 @@
 // A run: the steps of a script in turn, and their tally.
+pub mod tally;
+
 use act::Done;
 use protocol::Tally;
 ghost use mathlib.Core.Path.{_≡_};

@@ -20,9 +20,11 @@ use Rattle.step.specs.Stepped.{stepOutcome}
 use Rattle.run.specs.Runs.{runOutcome}
 use Rattle.find.specs.Answers.{foundIn}
 use Rattle.call.specs.Answers.{calledIn}
-use Rattle.rig.specs.Face.{tallyLength, kepRunOutcome}
+use Rattle.run.specs.Tallies.{tallyLength}
+use Rattle.rig.specs.Face.{kepRunOutcome}
+use Rattle.listing.specs.Bench.{benchOutcome}
 use Rattle.settled.specs.Tests.{Test, Given, accepted, fails, goes-on}
-use Rattle.settled.specs.Tables.{freshTable, stepTable, runTable, kepRunTable, findTable, callTable}
+use Rattle.settled.specs.Tables.{freshTable, stepTable, runTable, kepRunTable, findTable, callTable, benchTable}
 
 -- the number of the first test that fails
 abbrev first : List Test → ℕ
@@ -84,3 +86,7 @@ call-given l g c fits = exactly (callTable l g c fits) (calledIn l g c fits .out
 
     is : calledIn l g c fits .outcome ≡ first (callTable l g c fits)
     is = unfold calledIn callOutcome in by-bool (shaped l) (λ s. rw s told) (λ s. rw s refl)
+
+pub bench-given : (input : List ℕ) (k : ℕ) → (benchOutcome input ≡ k) ↔ Given (benchTable input) k
+unfolding benchOutcome scriptOutcome lengthOutcome
+bench-given input = exactly (benchTable input) (benchOutcome input) refl

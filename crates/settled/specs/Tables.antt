@@ -14,6 +14,7 @@ use Rattle.layout.specs.Layout.{netLength}
 use Rattle.plan.specs.Planned.{planShaped}
 use Rattle.shape.specs.Shape.{shaped}
 use Rattle.net.specs.View.{view}
+use Rattle.listing.specs.Bench.{planPart, scriptPart}
 use Rattle.settled.specs.Tests.{Test}
 
 -- test k, which passes or not
@@ -48,3 +49,7 @@ findTable l w = test 1 (shaped l) ∷ test 7 (ltb (firstFrom (λ g. sameName (vi
 abbrev pub callTable : List ℕ → ℕ → ℕ → Bool → List Test
 callTable l g c fits =
     test 1 (shaped l) ∷ test 3 (group? (view l) g && station? (view l) c) ∷ test 10 fits ∷ test 8 (onTree (treeOf (view l) g) c) ∷ []
+
+-- the bench program: 9, 11, 12
+abbrev pub benchTable : List ℕ → List Test
+benchTable input = test 9 (planShaped (planPart input)) ∷ scriptTable (scriptPart input)

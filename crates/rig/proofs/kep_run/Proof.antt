@@ -24,8 +24,8 @@ same-length-2 c = search needs
 returns-2 : tie.Need-returns-2
 returns-2 c = refused-run _ _ _ _ _ (c .before .before .before .before .before .before .before .if1 .left) (c .before .before .before .before .before .run .ensures) (c .before .if2 .taken)
 
-put-tally-requires : tie.Need-put-tally-requires
-put-tally-requires c κs = search needs
+put-requires : tie.Need-put-requires
+put-requires c κs = search needs
 
 same-length-3 : tie.Need-same-length-3
 same-length-3 c = search needs
@@ -34,7 +34,7 @@ same-length-4 : tie.Need-same-length-4
 same-length-4 c = search needs
 
 returns-3 : tie.Need-returns-3
-returns-3 c = accepted-run _ _ _ _ _ (c .before .before .before .before .before .before .before .before .before .before .if1 .left) (c .before .before .before .before .before .before .before .before .run .ensures) _ (c .before .before .before .before .if2 .left) (c .before .before .put-tally .ensures)
+returns-3 c = accepted-run _ _ _ _ _ (c .before .before .before .before .before .before .before .before .before .before .if1 .left) (c .before .before .before .before .before .before .before .before .run .ensures) _ (c .before .before .before .before .if2 .left) (c .before .before .put .ensures)
 
 pub kep-run-spec : {M : Type 1} → statement M
 kep-run-spec =
@@ -47,7 +47,7 @@ kep-run-spec =
     cast-result
     same-length-2
     returns-2
-    put-tally-requires
+    put-requires
     same-length-3
     same-length-4
     returns-3)

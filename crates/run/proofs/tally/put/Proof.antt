@@ -1,8 +1,8 @@
 use mathlib.Core.Path.{_∙_}
-use Rattle.rig.proofs.Runs.{five-counts}
+use Rattle.run.proofs.Tallies.{five-counts}
 use borrow.Author.Needs.{needs}
-use Rattle.rig.proofs.put_tally.Statement.{statement}
-use Rattle.rig.proofs.put_tally.Tie as tie
+use Rattle.run.proofs.tally.put.Statement.{statement}
+use Rattle.run.proofs.tally.put.Tie as tie
 
 put32-requires : tie.Need-put32-requires
 put32-requires c κs = search needs
@@ -25,8 +25,8 @@ same-length c = search needs
 returns : tie.Need-returns
 returns c = c .before .before .put325 .ensures ∙ rw (c .before .before .before .before .before .before .put324 .ensures, c .before .before .before .before .before .before .before .before .before .before .put323 .ensures, c .before .before .before .before .before .before .before .before .before .before .before .before .before .before .put322 .ensures, c .before .before .before .before .before .before .before .before .before .before .before .before .before .before .before .before .before .before .put32 .ensures) (five-counts _ _ (c .before .before .before .before .before .before .before .before .before .before .before .before .before .before .before .before .before .before .before .before .before .pre))
 
-pub put-tally-spec : {M : Type 1} → statement M
-put-tally-spec =
+pub put-spec : {M : Type 1} → statement M
+put-spec =
     tie.close
     (tie.spec
     put32-requires

@@ -1,0 +1,11 @@
+-- The tally in bytes: "20, five counts of 4 bytes in the order above".
+use mathlib.Core.List.{List, _++_}
+use Prim.Native.Nat.{ℕ}
+use Rattle.bits.specs.Numbers.{bytes}
+use Rattle.protocol.specs.declared.Tally.{Tally}
+
+abbrev pub tallyLength : ℕ
+tallyLength = 20
+
+unfoldable pub tallyBytes : Tally → List ℕ
+tallyBytes t = bytes 4 (t .accepted) ++ bytes 4 (t .refused) ++ bytes 4 (t .sent) ++ bytes 4 (t .delivered) ++ bytes 4 (t .lost)
