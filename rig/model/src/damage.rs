@@ -167,7 +167,7 @@ fn padding(random: &mut Random, plan: &Plan, bytes: &mut [u8]) -> bool {
     let group = a_group(random, plan);
     let used = plan.groups[group].name.len();
     let free: Vec<usize> = (used..NAME_BYTES).collect();
-    random.pick_any(&free).is_some_and(|byte| set(bytes, group_at(group) + 1 + byte, not_zero(random)))
+    random.pick_any(&free).map_or(false, |byte| set(bytes, group_at(group) + 1 + byte, not_zero(random)))
 }
 
 fn same_name(random: &mut Random, plan: &Plan, bytes: &mut [u8]) -> bool {
@@ -190,7 +190,7 @@ fn flip_cable(bytes: &mut [u8], station: usize, other: usize) -> bool {
 
 fn mask_past_the_last(random: &mut Random, plan: &Plan, bytes: &mut [u8]) -> bool {
     let station = a_station(random, plan);
-    unused_station(random, plan).is_some_and(|other| flip_cable(bytes, station, other))
+    unused_station(random, plan).map_or(false, |other| flip_cable(bytes, station, other))
 }
 
 fn one_way_cable(random: &mut Random, plan: &Plan, bytes: &mut [u8]) -> bool {
@@ -206,12 +206,12 @@ fn own_neighbour(random: &mut Random, plan: &Plan, bytes: &mut [u8]) -> bool {
 fn unused_group(random: &mut Random, plan: &Plan, bytes: &mut [u8]) -> bool {
     let unused: Vec<usize> = (plan.groups.len()..MOST_GROUPS).collect();
     let byte = random.below(GROUP_SIZE);
-    random.pick_any(&unused).is_some_and(|group| set(bytes, group_at(group) + byte, not_zero(random)))
+    random.pick_any(&unused).map_or(false, |group| set(bytes, group_at(group) + byte, not_zero(random)))
 }
 
 fn unused_mask(random: &mut Random, plan: &Plan, bytes: &mut [u8]) -> bool {
     let other = random.below(MOST_STATIONS);
-    unused_station(random, plan).is_some_and(|station| {
+    unused_station(random, plan).map_or(false, |station| {
         // in half of the cases the cable is there from both ends
         if random.chance(50) && other != station {
             flip_cable(bytes, other, station);
@@ -228,7 +228,7 @@ fn route(random: &mut Random, plan: &Plan, bytes: &mut [u8]) -> bool {
 fn route_to_itself(random: &mut Random, plan: &Plan, bytes: &mut [u8]) -> bool {
     let p = a_station(random, plan);
     let neighbours: Vec<usize> = plan.neighbours[p].each().collect();
-    random.pick_any(&neighbours).is_some_and(|next| set(bytes, route_at(p, p), next as u8))
+    random.pick_any(&neighbours).map_or(false, |next| set(bytes, route_at(p, p), next as u8))
 }
 
 fn parent(random: &mut Random, plan: &Plan, bytes: &mut [u8], byte: usize) -> bool {
@@ -240,7 +240,7 @@ fn roots_parent(random: &mut Random, plan: &Plan, bytes: &mut [u8], byte: usize)
     let group = a_group(random, plan);
     let root = plan.groups[group].root;
     let neighbours: Vec<usize> = plan.neighbours[root].each().collect();
-    random.pick_any(&neighbours).is_some_and(|next| set(bytes, entry_at(group, root) + byte, next as u8))
+    random.pick_any(&neighbours).map_or(false, |next| set(bytes, entry_at(group, root) + byte, next as u8))
 }
 
 fn member(random: &mut Random, plan: &Plan, bytes: &mut [u8]) -> bool {
@@ -283,7 +283,10 @@ fn write_request(bytes: &mut [u8], at: usize, group: usize) {
 
 /// All 8 places hold a message, and the count says more.
 fn overfull(random: &mut Random, plan: &Plan, bytes: &mut [u8]) -> bool {
-    let Some((p, q, count)) = cabled_channel(random, plan, bytes) else { return false };
+    let (p, q, count) = match cabled_channel(random, plan, bytes) {
+        Some(found) => found,
+        None => return false,
+    };
     for i in count..CHANNEL_HOLDS {
         write_request(bytes, message_at(p, q, i), a_group(random, plan));
     }
@@ -296,39 +299,45 @@ fn uncabled(random: &mut Random, plan: &Plan) -> Option<(usize, usize)> {
 }
 
 fn channel_without_cable(random: &mut Random, plan: &Plan, bytes: &mut [u8]) -> bool {
-    let Some((p, q)) = uncabled(random, plan) else { return false };
+    let (p, q) = match uncabled(random, plan) {
+        Some(found) => found,
+        None => return false,
+    };
     write_request(bytes, message_at(p, q, 0), a_group(random, plan));
     set(bytes, channel_at(p, q), 1)
 }
 
 fn channel_without_cable_filled(random: &mut Random, plan: &Plan, bytes: &mut [u8]) -> bool {
-    let Some((p, q)) = uncabled(random, plan) else { return false };
+    let (p, q) = match uncabled(random, plan) {
+        Some(found) => found,
+        None => return false,
+    };
     let byte = random.below(CHANNEL_SIZE - 1);
     set(bytes, message_at(p, q, 0) + byte, not_zero(random))
 }
 
 fn kind(random: &mut Random, plan: &Plan, bytes: &mut [u8]) -> bool {
     let value = out_of(random, 1, 2);
-    message_in_use(random, plan, bytes, 0).is_some_and(|at| set(bytes, at, value))
+    message_in_use(random, plan, bytes, 0).map_or(false, |at| set(bytes, at, value))
 }
 
 fn message_group(random: &mut Random, plan: &Plan, bytes: &mut [u8]) -> bool {
     let value = random.pick(&[plan.groups.len() as u8, 4, 255]);
-    message_in_use(random, plan, bytes, 0).is_some_and(|at| set(bytes, at + 1, value))
+    message_in_use(random, plan, bytes, 0).map_or(false, |at| set(bytes, at + 1, value))
 }
 
 fn connected(random: &mut Random, plan: &Plan, bytes: &mut [u8]) -> bool {
     let value = random.pick(&[2, 3, 128, 255]);
-    message_in_use(random, plan, bytes, 2).is_some_and(|at| set(bytes, at + 2, value))
+    message_in_use(random, plan, bytes, 2).map_or(false, |at| set(bytes, at + 2, value))
 }
 
 fn connected_request(random: &mut Random, plan: &Plan, bytes: &mut [u8]) -> bool {
-    message_in_use(random, plan, bytes, 1).is_some_and(|at| set(bytes, at + 2, 1))
+    message_in_use(random, plan, bytes, 1).map_or(false, |at| set(bytes, at + 2, 1))
 }
 
 fn request_with_clock(random: &mut Random, plan: &Plan, bytes: &mut [u8]) -> bool {
     let byte = 3 + random.below(4);
-    message_in_use(random, plan, bytes, 1).is_some_and(|at| set(bytes, at + byte, not_zero(random)))
+    message_in_use(random, plan, bytes, 1).map_or(false, |at| set(bytes, at + byte, not_zero(random)))
 }
 
 /// A station past the last with any other, either way round.
@@ -339,29 +348,32 @@ fn unused_pair(random: &mut Random, plan: &Plan) -> Option<(usize, usize)> {
 }
 
 fn unused_route(random: &mut Random, plan: &Plan, bytes: &mut [u8]) -> bool {
-    unused_pair(random, plan).is_some_and(|(p, d)| set(bytes, route_at(p, d), not_zero(random)))
+    unused_pair(random, plan).map_or(false, |(p, d)| set(bytes, route_at(p, d), not_zero(random)))
 }
 
 fn unused_channel(random: &mut Random, plan: &Plan, bytes: &mut [u8]) -> bool {
     let byte = random.pick(&[0, 1, 2, 3, 4, 5, 6, 7, 8, 50, 55, 56]);
-    unused_pair(random, plan).is_some_and(|(p, q)| set(bytes, channel_at(p, q) + byte, not_zero(random)))
+    unused_pair(random, plan).map_or(false, |(p, q)| set(bytes, channel_at(p, q) + byte, not_zero(random)))
 }
 
 fn unused_entry_of_group(random: &mut Random, plan: &Plan, bytes: &mut [u8]) -> bool {
     let unused: Vec<usize> = (plan.groups.len()..MOST_GROUPS).collect();
     let (station, byte) = (random.below(MOST_STATIONS), random.below(ENTRY_SIZE));
-    random.pick_any(&unused).is_some_and(|group| set(bytes, entry_at(group, station) + byte, not_zero(random)))
+    random.pick_any(&unused).map_or(false, |group| set(bytes, entry_at(group, station) + byte, not_zero(random)))
 }
 
 fn unused_entry_of_station(random: &mut Random, plan: &Plan, bytes: &mut [u8]) -> bool {
     let (group, byte) = (random.below(MOST_GROUPS), random.below(ENTRY_SIZE));
-    unused_station(random, plan).is_some_and(|p| set(bytes, entry_at(group, p) + byte, not_zero(random)))
+    unused_station(random, plan).map_or(false, |p| set(bytes, entry_at(group, p) + byte, not_zero(random)))
 }
 
 fn unused_message(random: &mut Random, plan: &Plan, bytes: &mut [u8]) -> bool {
-    let Some((p, q, count)) = cabled_channel(random, plan, bytes) else { return false };
+    let (p, q, count) = match cabled_channel(random, plan, bytes) {
+        Some(found) => found,
+        None => return false,
+    };
     let places: Vec<usize> = (message_at(p, q, count)..message_at(p, q, CHANNEL_HOLDS)).collect();
-    random.pick_any(&places).is_some_and(|at| set(bytes, at, not_zero(random)))
+    random.pick_any(&places).map_or(false, |at| set(bytes, at, not_zero(random)))
 }
 
 #[cfg(test)]
