@@ -34,6 +34,14 @@ static int accepted(uint32_t result)
     return KEP_OUTCOME(result) == KEP_ACCEPTED;
 }
 
+/* A later library may have outcomes that this host has no words for. */
+static const char *outcome_text(unsigned outcome)
+{
+    int known = outcome < sizeof outcome_texts / sizeof *outcome_texts && outcome_texts[outcome];
+
+    return known ? outcome_texts[outcome] : "for a reason that this host does not know";
+}
+
 static void print_outcome(uint32_t result)
 {
     unsigned outcome = KEP_OUTCOME(result);
@@ -41,7 +49,7 @@ static void print_outcome(uint32_t result)
     if (accepted(result))
         printf("accepted\n");
     else
-        printf("refused %u, %s\n", outcome, outcome_texts[outcome]);
+        printf("refused %u, %s\n", outcome, outcome_text(outcome));
 }
 
 /* For what cannot go on after a refusal: says what was refused, and ends the host. */

@@ -4,7 +4,7 @@
  *
  * A buffer is a pointer and a length. The pointer is not null, even for a buffer of no bytes, and that many bytes behind it
  * can be read, or written too where the pointer is not const. Buffers of one call do not overlap. Nothing is kept after a call,
- * nothing is allocated, nothing is printed, and every call returns.
+ * nothing is allocated, nothing is printed, and every call returns. The stack that a call needs is below, measured and not proved.
  *
  * A result is one number. Its lowest byte is the outcome: 0 for accepted, else the number of the refusal. Further values stand
  * in the next bytes. A refusal is its number with zeros for every other value, and it changes no byte of any buffer.
@@ -30,6 +30,12 @@ enum {
     KEP_TALLY_BYTES = 20,  /* five counts of 4 bytes, big-endian */
     KEP_SCRIPT_BYTES_MOST = 16384,
     KEP_NIL = 255          /* no station */
+};
+
+/* The stack, in bytes, that a call needs at most: rounded up from what rig/build measures. */
+enum {
+    KEP_STACK_BYTES = 4096,
+    KEP_CALL_STACK_BYTES = 32768 /* of kep_call, which visits up to 16 stations, each below the one before */
 };
 
 /* The outcomes. */

@@ -1,5 +1,6 @@
 pub mod Cases
 pub mod Numbers
 pub mod Parts
+pub mod Fills
 pub mod Masks
 pub mod Sums

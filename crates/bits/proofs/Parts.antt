@@ -9,8 +9,8 @@ use mathlib.Core.Logic.{_⊎_, inl, inr, ⊎-elim}
 use Prim.Native.Nat.{ℕ, zero, suc, _+_, _*_, _^_, _≤_, _<_}
 use native.Mathlib.Nat.{zero-add, add-zero, add-suc, suc-add}
 use native.Mathlib.Omega.{arith}
-use lib.ListN.{length, getD, take, drop, set, length-set, length-drop, length-append, take-append-drop}
-use lib.Seq.{sets, sets-eq, length-take-le, length-sets, getD-set-same, getD-set-other, getD-take, getD-drop, ext-getD, take-set-lt, take-set-le, drop-set-lt, drop-set-add, drop-drop}
+use lib.ListN.{length, getD, take, drop, set, replicate, length-set, length-drop, length-append, take-append-drop, List·getD-append}
+use lib.Seq.{sets, sets-eq, length-take-le, length-sets, getD-set-same, getD-set-other, getD-take, getD-drop, getD-append-add, ext-getD, take-set-lt, take-set-le, drop-set-lt, drop-set-add, drop-drop}
 use Rattle.bits.specs.Numbers.{onto, number, bytes}
 use Rattle.bits.specs.Parts.{part, numberAt, splice, Wrote}
 use Rattle.bits.proofs.Numbers.{Bytes, number-lt, bytes-number, onto-append, onto-split}
@@ -166,7 +166,26 @@ part-more l s a i xs e = splice-more l s a i (part i xs 0) (getD xs i 0) e (leng
     more : part (i + 1) xs 0 ≡ part i xs 0 ++ (getD xs i 0 ∷ [])
     more = part-add i 1 xs 0 ∙ ap (λ (k : ℕ). part i xs 0 ++ part 1 xs k) (zero-add i) ∙ unfold part in refl
 
--- nothing put, and one thing put after another
+-- ---- a part of two lists joined, of a list as long as itself, and of zeros
+pub part-left : (w : ℕ) (xs ys : List ℕ) (k : ℕ) → k + w ≤ length xs → part w (xs ++ ys) k ≡ part w xs k
+part-left w xs ys k h = part-cong w (xs ++ ys) xs k k (λ j b. List·getD-append xs ys 0 (k + j) (omega arith))
+
+pub part-right : (w : ℕ) (xs ys : List ℕ) {n : ℕ} → length xs ≡ n → (k : ℕ) → part w (xs ++ ys) (n + k) ≡ part w ys k
+part-right w xs ys {n} e k = part-cong w (xs ++ ys) ys (n + k) k
+    (λ j b. ap (λ (i : ℕ). getD (xs ++ ys) i 0) (omega arith) ∙ getD-append-add xs ys (k + j) 0)
+
+pub part-same : (w : ℕ) (l : List ℕ) (i : ℕ) → part w (part w l i) 0 ≡ part w l i
+part-same w l i = part-part w w l i 0 (omega arith) ∙ ap (part w l) (add-zero i)
+
+pub part-whole : (w : ℕ) (l : List ℕ) → length l ≡ w → part w l 0 ≡ l
+part-whole w l e = rw (← e) (part-all l)
+
+pub getD-zeros : (n i : ℕ) → _≡_ {A = ℕ} (getD (replicate n 0) i 0) 0
+getD-zeros zero i = refl
+getD-zeros (suc n) zero = refl
+getD-zeros (suc n) (suc i) = getD-zeros n i
+
+-- ---- nothing put, and one thing put after another
 pub wrote-none : (o : List ℕ) (i : ℕ) → Wrote o o i i []
 unfolding splice
 wrote-none o i = record { next = omega arith; bytes = refl }

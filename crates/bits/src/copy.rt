@@ -1,6 +1,7 @@
-// Bytes copied into a lent buffer.
+// Bytes put into a lent buffer: copied from another, or all of one value.
+ghost use mathlib.Core.Path.{_≡_};
 ghost use Prim.Native.Nat.{_+_, _≤_};
-ghost use lib.ListN.{length};
+ghost use lib.ListN.{length, replicate};
 ghost use Rattle.bits.specs.Parts.{Wrote};
 
 // The bytes s from `at` on, and the place after them.
@@ -15,4 +16,16 @@ pub fn put(out: &mut [u8], at: usize, s: &[u8]) -> usize
         i += 1;
     }
     at + n
+}
+
+// Every byte becomes v.
+pub fn fill(s: &mut [u8], v: u8)
+    ensures { λ _. ⌜ now (s .exit) ≡ replicate (length (now (s .entry))) v ⌝ }
+{
+    let n = s.len();
+    let mut i = 0;
+    while i < n {
+        s[i] = v;
+        i += 1;
+    }
 }

@@ -5,7 +5,7 @@ ghost use Prim.Native.Nat.{_≤_, _<_};
 ghost use Rattle.bits.specs.Masks as mask;
 
 // Whether j, one of the sixteen, is in.
-pub fn bit(m: u16, j: usize) -> bool
+pub fn has_at(m: u16, j: usize) -> bool
     requires { ⌜ j < 16 ⌝ }
     ensures { λ r. ⌜ r ≡ mask.has m j ⌝ }
 {
@@ -16,7 +16,7 @@ pub fn bit(m: u16, j: usize) -> bool
 pub fn has(m: u16, j: u8) -> bool
     ensures { λ r. ⌜ r ≡ mask.has m j ⌝ }
 {
-    if j < 16 { bit(m, wide(j)) } else { false }
+    if j < 16 { has_at(m, wide(j)) } else { false }
 }
 
 // With j.

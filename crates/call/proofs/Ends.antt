@@ -18,11 +18,11 @@ use Rattle.protocol.specs.Calls.{treeOf, callOutcome, called, reachList}
 use Rattle.protocol.proofs.Calls.{tree-rooted, call-copies}
 use Rattle.shape.specs.Shape.{shaped}
 use Rattle.net.specs.View.{view}
-use Rattle.net.proofs.Seen.{seen}
-use Rattle.cells.specs.Ready.{Ready}
-use Rattle.walk.specs.Walks.{wire, listLength}
+use Rattle.access.specs.inner.Nets.{IsNet}
+use Rattle.visit.specs.Lists.{reachBytes, listLength}
 use Rattle.call.specs.declared.Answer.the-variants.{Reached, Refused}
-use Rattle.call.specs.Answers.{answerOf, calledIn, listLeaves, Called}
+use Rattle.call.specs.Answers.{answerOf, calledIn, listAfterCall, CallEnd}
+use Rattle.net.proofs.Saved.{seen}
 
 -- a group and a station of the net, as the test has them
 pub both-in : (N : Net) (g c : ℕ) → g < N .groups → c < N .stations → (group? N g && station? N c) ≡ true
@@ -34,32 +34,32 @@ unfolding group? station?
 in-both N g c o = (ltb-true _ _ (and-l (ltb g (N .groups)) (ltb c (N .stations)) o), ltb-true _ _ (and-r (ltb g (N .groups)) (ltb c (N .stations)) o))
 
 -- one more than the copies is the number reached
-pub copies : (l : List ℕ) (R : Ready l) (g c : ℕ) → g < view l .groups → onTree (treeOf (view l) g) c ≡ true → suc (length (spread (treeOf (view l) g) c)) ≡ length (reach (treeOf (view l) g))
+pub copies : (l : List ℕ) (R : IsNet l) (g c : ℕ) → g < view l .groups → onTree (treeOf (view l) g) c ≡ true → suc (length (spread (treeOf (view l) g) c)) ≡ length (reach (treeOf (view l) g))
 copies l R g c h t = let H = seen l (R .good) in call-copies (view l) H g h c (on-tree (treeOf (view l) g) (tree-rooted (view l) H g h) c .1 t)
 
 module _ (l : List ℕ) (g c : ℕ) (out : List ℕ) where
-  pub ends-1 : shaped l ≡ false → Called l g c out (Refused 1) out
-  unfolding calledIn listLeaves answerOf
+  pub ends-1 : shaped l ≡ false → CallEnd l g c out (Refused 1) out
+  unfolding calledIn listAfterCall answerOf
   ends-1 s = record { answer = rw s refl; list = rw s refl }
 
   module _ (s : shaped l ≡ true) where
-    pub ends-3 : (group? (view l) g && station? (view l) c) ≡ false → Called l g c out (Refused 3) out
-    unfolding calledIn listLeaves answerOf called callOutcome
+    pub ends-3 : (group? (view l) g && station? (view l) c) ≡ false → CallEnd l g c out (Refused 3) out
+    unfolding calledIn listAfterCall answerOf called callOutcome
     ends-3 o = record { answer = rw (s, o) refl; list = rw (s, o) refl }
 
-    pub ends-10 : (group? (view l) g && station? (view l) c) ≡ true → length out ≢ listLength → Called l g c out (Refused 10) out
-    unfolding calledIn listLeaves answerOf called callOutcome
+    pub ends-10 : (group? (view l) g && station? (view l) c) ≡ true → length out ≢ listLength → CallEnd l g c out (Refused 10) out
+    unfolding calledIn listAfterCall answerOf called callOutcome
     ends-10 o n = let f = ne-eqb _ _ n in record { answer = rw (s, o, f) refl; list = rw (s, o, f) refl }
 
     module _ (o : (group? (view l) g && station? (view l) c) ≡ true) (n : length out ≡ listLength) where
-      pub ends-8 : onTree (treeOf (view l) g) c ≡ false → Called l g c out (Refused 8) out
-      unfolding calledIn listLeaves answerOf called callOutcome
+      pub ends-8 : onTree (treeOf (view l) g) c ≡ false → CallEnd l g c out (Refused 8) out
+      unfolding calledIn listAfterCall answerOf called callOutcome
       ends-8 f = let e = eq-eqb _ _ n in record { answer = rw (s, o, e, f) refl; list = rw (s, o, e, f) refl }
 
       -- "copies is the number of passings-on in that definition, and is reached minus one"
       pub ends-0 : (r k : ℕ) (out′ : List ℕ) → onTree (treeOf (view l) g) c ≡ true → r ≡ length (reach (treeOf (view l) g)) → suc k ≡ r
-          → suc (length (spread (treeOf (view l) g) c)) ≡ length (reach (treeOf (view l) g)) → out′ ≡ wire (reachList (view l) g) → Called l g c out (Reached r k) out′
-      unfolding calledIn listLeaves answerOf called callOutcome
+          → suc (length (spread (treeOf (view l) g) c)) ≡ length (reach (treeOf (view l) g)) → out′ ≡ reachBytes (reachList (view l) g) → CallEnd l g c out (Reached r k) out′
+      unfolding calledIn listAfterCall answerOf called callOutcome
       ends-0 r k out′ t i j copies w =
           let e = eq-eqb _ _ n in
           let kk : k ≡ length (spread (treeOf (view l) g) c) = omega arith in

@@ -1,3 +1,3 @@
 pub mod Lists
 pub mod Ends
-pub mod Told
+pub mod Answers

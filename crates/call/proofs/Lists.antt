@@ -14,22 +14,23 @@ use Rattle.protocol.specs.Net.{mostStations}
 use Rattle.protocol.specs.Calls.{treeOf, noReach, reachList}
 use Rattle.protocol.proofs.Calls.{reach-few}
 use Rattle.net.specs.View.{view}
-use Rattle.net.proofs.Seen.{seen}
-use Rattle.cells.specs.Ready.{Ready}
-use Rattle.walk.specs.Walks.{wire, listLength, stationBytes, Fit}
-use Rattle.walk.proofs.Visits.{wire-append}
+use Rattle.access.specs.inner.Nets.{IsNet}
+use Rattle.visit.specs.Lists.{reachBytes, listLength}
+use Rattle.visit.specs.inner.Visits.{stationBytes, MayVisit}
+use Rattle.visit.proofs.Visits.{reach-append}
+use Rattle.net.proofs.Saved.{seen}
 
-pub length-wire : (l : List Reach) → length (wire l) ≡ 3 * length l
-unfolding wire
-length-wire [] = refl
-length-wire (x ∷ l) = omega (arith, length-wire l)
+pub reach-length : (l : List Reach) → length (reachBytes l) ≡ 3 * length l
+unfolding reachBytes
+reach-length [] = refl
+reach-length (x ∷ l) = omega (arith, reach-length l)
 
-wire-none : (k : ℕ) → wire (replicate k noReach) ≡ replicate (3 * k) 255
-unfolding wire
-wire-none zero = refl
-wire-none (suc k) =
+reach-none : (k : ℕ) → reachBytes (replicate k noReach) ≡ replicate (3 * k) 255
+unfolding reachBytes
+reach-none zero = refl
+reach-none (suc k) =
     let e : 3 * suc k ≡ suc (suc (suc (3 * k))) = omega arith in
-    rw e (ap (λ (r : List ℕ). 255 ∷ 255 ∷ 255 ∷ r) (wire-none k))
+    rw e (ap (λ (r : List ℕ). 255 ∷ 255 ∷ 255 ∷ r) (reach-none k))
 
 drop-replicate : (k m : ℕ) → _≡_ {A = List ℕ} (drop k (replicate m 255)) (replicate (m - k) 255)
 drop-replicate zero m = rw sub-zero
@@ -43,7 +44,7 @@ front xs h =
     sets-eq xs (replicate listLength 255) 0 (omega (arith, length-replicate {A = ℕ} listLength 255))
     ∙ ap (λ (r : List ℕ). xs ++ r) (ap (λ (k : ℕ). drop k (replicate listLength 255)) (zero-add (length xs)) ∙ drop-replicate (length xs) listLength)
 
-module _ (l : List ℕ) (R : Ready l) (g : ℕ) (h : g < view l .groups) where
+module _ (l : List ℕ) (R : IsNet l) (g : ℕ) (h : g < view l .groups) where
   abbrev t : Tree
   t = treeOf (view l) g
 
@@ -52,16 +53,16 @@ module _ (l : List ℕ) (R : Ready l) (g : ℕ) (h : g < view l .groups) where
 
   -- the visit of the root is that of the reach list: p and n are what the code read
   module _ (p n : ℕ) (root : p ≡ view l .root g) (all : n ≡ view l .stations) where
-    root-bytes : stationBytes t n 0 p ≡ wire (reach t)
+    root-bytes : stationBytes t n 0 p ≡ reachBytes (reach t)
     unfolding stationBytes reach treeOf
     root-bytes = λ i. stationBytes t (all i) 0 (root i)
 
     root-length : length (stationBytes t n 0 p) ≡ 3 * length (reach t)
-    root-length = ap length root-bytes ∙ length-wire (reach t)
+    root-length = ap length root-bytes ∙ reach-length (reach t)
 
-    pub root-fit : (out : List ℕ) → length out ≡ listLength → Fit l out g p 0 n 0 (stationBytes t n 0 p)
+    pub root-fit : (out : List ℕ) → length out ≡ listLength → MayVisit l out g p 0 n 0 (stationBytes t n 0 p)
     root-fit out k = record {
-      ready = R;
+      is-net = R;
       group = h;
       station = rw root (seen l (R .good) .plan .roots g h);
       long = k;
@@ -73,10 +74,10 @@ module _ (l : List ℕ) (R : Ready l) (g : ℕ) (h : g < view l .groups) where
       pub all-reached : r ≡ 3 * length (reach t)
       all-reached = omega (arith, W .next, root-length)
 
-      pub all-listed : out′ ≡ wire (reachList (view l) g)
+      pub all-listed : out′ ≡ reachBytes (reachList (view l) g)
       unfolding reachList
       all-listed =
-          let left : listLength - length (wire (reach t)) ≡ 3 * (mostStations - length (reach t)) = omega (arith, few, length-wire (reach t)) in
-          W .bytes ∙ (λ i. splice (clean i) 0 (root-bytes i)) ∙ front (wire (reach t)) (omega (arith, few, length-wire (reach t)))
-          ∙ ap (λ (r : List ℕ). wire (reach t) ++ r) (ap (λ (k : ℕ). replicate k 255) left ∙ sym (wire-none (mostStations - length (reach t))))
-          ∙ sym (wire-append (reach t) (replicate (mostStations - length (reach t)) noReach))
+          let left : listLength - length (reachBytes (reach t)) ≡ 3 * (mostStations - length (reach t)) = omega (arith, few, reach-length (reach t)) in
+          W .bytes ∙ (λ i. splice (clean i) 0 (root-bytes i)) ∙ front (reachBytes (reach t)) (omega (arith, few, reach-length (reach t)))
+          ∙ ap (λ (r : List ℕ). reachBytes (reach t) ++ r) (ap (λ (k : ℕ). replicate k 255) left ∙ sym (reach-none (mostStations - length (reach t))))
+          ∙ sym (reach-append (reach t) (replicate (mostStations - length (reach t)) noReach))

@@ -4,19 +4,18 @@ use mathlib.Core.Bool.{Bool, cond}
 use mathlib.Core.List.{List}
 use Prim.Native.Nat.{ℕ, zero, suc}
 use lib.Dec.{eqb}
-use lib.ListN.{length}
 use Rattle.protocol.specs.Calls as book
 use Rattle.shape.specs.Shape.{shaped}
 use Rattle.net.specs.View.{view}
-use Rattle.walk.specs.Walks.{wire, listLength}
+use Rattle.visit.specs.Lists.{reachBytes, listFits}
 use Rattle.call.specs.declared.Answer.{Answer}
 use Rattle.call.specs.declared.Answer.the-variants.{Reached, Refused}
 
 -- the outcome's number, the number reached and the copies of each answer: "a refusal returns its number with zeros for every
 -- other result"
-abbrev pub toldOf : Answer → book.Called
-toldOf (Reached r k) = record { outcome = 0; reached = r; copies = k }
-toldOf (Refused n) = record { outcome = n; reached = 0; copies = 0 }
+abbrev pub calledOf : Answer → book.Called
+calledOf (Reached r k) = record { outcome = 0; reached = r; copies = k }
+calledOf (Refused n) = record { outcome = n; reached = 0; copies = 0 }
 
 -- the answer that tells an outcome: 0 is never refused
 abbrev pub answerBy : ℕ → ℕ → ℕ → Answer
@@ -31,9 +30,9 @@ unfoldable pub calledIn : List ℕ → ℕ → ℕ → Bool → book.Called
 calledIn l g c fits = cond (shaped l) (book.called (view l) g c fits) (record { outcome = 1; reached = 0; copies = 0 })
 
 -- the reach list, and on a refusal the list as it was
-unfoldable pub listLeaves : List ℕ → ℕ → ℕ → List ℕ → List ℕ
-listLeaves l g c out = cond (eqb (calledIn l g c (eqb (length out) listLength) .outcome) 0) (wire (book.reachList (view l) g)) out
+unfoldable pub listAfterCall : List ℕ → ℕ → ℕ → List ℕ → List ℕ
+listAfterCall l g c out = cond (eqb (calledIn l g c (listFits out) .outcome) 0) (reachBytes (book.reachList (view l) g)) out
 
-pub record Called (l : List ℕ) (g c : ℕ) (out : List ℕ) (r : Answer) (out′ : List ℕ) : Type 0 where
-  pub answer : r ≡ answerOf (calledIn l g c (eqb (length out) listLength))
-  pub list : out′ ≡ listLeaves l g c out
+pub record CallEnd (l : List ℕ) (g c : ℕ) (out : List ℕ) (r : Answer) (out′ : List ℕ) : Type 0 where
+  pub answer : r ≡ answerOf (calledIn l g c (listFits out))
+  pub list : out′ ≡ listAfterCall l g c out

@@ -1,3 +1,4 @@
 pub mod Moved
 pub mod Slots
+pub mod Things
 pub mod Messages

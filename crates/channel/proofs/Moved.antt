@@ -7,7 +7,8 @@ use native.Mathlib.Numerals.{add-one}
 use native.Mathlib.Omega.{arith}
 use lib.ListN.{length, take, drop, getD, set, replicate, length-append, length-drop, length-replicate}
 use lib.Seq.{length-take-le, getD-append-add, getD-drop, drop-length, sets, sets-eq}
-use Rattle.channel.specs.Slots.{movedUp}
+use Rattle.bits.proofs.Parts.{getD-zeros}
+use Rattle.channel.specs.inner.Channels.{movedUp}
 
 -- the first j of t, then d from j on
 abbrev pub upto : ℕ → List ℕ → List ℕ → List ℕ
@@ -49,11 +50,6 @@ upto-ahead j k t d h =
 pub length-movedUp : (w : ℕ) (d : List ℕ) → w ≤ length d → length (movedUp w d) ≡ length d
 unfolding movedUp
 length-movedUp w d h = simp (length-append, length-drop, length-replicate) (omega arith)
-
-pub getD-zeros : (n i : ℕ) → _≡_ {A = ℕ} (getD (replicate n 0) i 0) 0
-getD-zeros zero i = refl
-getD-zeros (suc n) zero = refl
-getD-zeros (suc n) (suc i) = getD-zeros n i
 
 pub getD-append-zeros : (xs : List ℕ) (n i : ℕ) → getD (xs ++ replicate n 0) i 0 ≡ getD xs i 0
 getD-append-zeros [] n i = getD-zeros n i

@@ -12,7 +12,8 @@ use lib.ListN.{length, take, drop, getD, set, replicate, length-append, length-d
 use lib.Seq.{take-at, drop-at, take-add, drop-drop, length-take-le}
 use Rattle.bits.proofs.Parts.{lent, back}
 use Rattle.protocol.specs.Net.{removeAt}
-use Rattle.channel.specs.Slots.{slots, flat, laid, inUse, Queue, Sized, movedUp}
+use Rattle.channel.specs.Slots.{slots, flat, laid, inUse}
+use Rattle.channel.specs.inner.Channels.{Queue, Sized, movedUp}
 
 -- ---- slots, one after the other
 pub length-slots : (w n : ℕ) (s : List ℕ) → length (slots w n s) ≡ n

@@ -1,3 +1,4 @@
 -- A channel's bytes.
 pub mod Slots
 pub mod Messages
+pub mod inner

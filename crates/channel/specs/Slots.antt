@@ -1,7 +1,6 @@
 -- A channel's bytes: a count, then so many slots of w bytes, oldest first, unused slots zero. Over any capacity and width.
-use mathlib.Core.Path.{_≡_}
-use mathlib.Core.List.{List, [], _∷_, _++_}
-use Prim.Native.Nat.{ℕ, zero, suc, _+_, _*_, _-_, _≤_}
+use mathlib.Core.List.{List, [], _∷_, _++_, map}
+use Prim.Native.Nat.{ℕ, zero, suc, _+_, _*_, _-_}
 use lib.ListN.{length, take, drop, getD, replicate}
 
 -- the first n slots of w bytes
@@ -22,17 +21,12 @@ laid most w ms = length ms ∷ (flat ms ++ replicate ((most - length ms) * w) 0)
 unfoldable pub inUse : ℕ → List ℕ → List (List ℕ)
 inUse w b = slots w (getD b 0 0) (drop 1 b)
 
--- a channel's bytes have this form: their length, a count within the capacity, and zero past the slots in use
-pub record Queue (most w : ℕ) (b : List ℕ) : Type 0 where
-  pub len : length b ≡ 1 + most * w
-  pub few : getD b 0 0 ≤ most
-  pub clear : drop (1 + getD b 0 0 * w) b ≡ replicate ((most - getD b 0 0) * w) 0
+-- ---- things in slots: `out` writes one, `into` reads it
+module _ {A : Type 0} where
+  -- the things of a channel's bytes, oldest first
+  abbrev pub readAll : (w : ℕ) → (List ℕ → A) → List ℕ → List A
+  readAll w into b = map into (inUse w b)
 
--- each is w long
-abbrev pub Sized : ℕ → List (List ℕ) → Type 0
-Sized w [] = Unit {0}
-Sized w (m ∷ ms) = (length m ≡ w) × Sized w ms
-
--- d moved w to the left, with zeros at the end
-unfoldable pub movedUp : ℕ → List ℕ → List ℕ
-movedUp w d = drop w d ++ replicate w 0
+  -- the bytes of a channel that holds these things
+  abbrev pub writeAll : (most w : ℕ) → (A → List ℕ) → List A → List ℕ
+  writeAll most w out l = laid most w (map out l)

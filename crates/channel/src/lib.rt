@@ -1,17 +1,17 @@
 // A channel's bytes: a count, and then the messages, oldest first.
+use layout::place::MESSAGE_SIZE;
 use protocol::Message;
 ghost use mathlib.Core.Path.{_≡_};
-ghost use mathlib.Core.List.{List, [], _∷_, _++_};
+ghost use mathlib.Core.List.{[], _∷_, _++_};
 ghost use Prim.Native.Nat.{_≤_, _<_};
 ghost use lib.ListN.{length, getD};
 ghost use Rattle.protocol.specs.Net.{capacity, removeAt};
 ghost use Rattle.protocol.specs.Entries.{isOf, countOf};
 ghost use Rattle.protocol.specs.Rules.{noMessage};
-ghost use Rattle.channel.specs.Slots.{movedUp};
-ghost use Rattle.channel.specs.Messages.{messageSize, messageOf, messageBytes, messagesOf, channelBytes, Held};
-
-// How many bytes a message has: `messageSize` of specs/Messages.antt.
-const SIZE: usize = 7;
+ghost use Rattle.layout.specs.Layout.{messageSize};
+ghost use Rattle.channel.specs.inner.Channels.{movedUp};
+ghost use Rattle.channel.specs.Messages.{messageOf, messageBytes, messagesOf, channelBytes};
+ghost use Rattle.channel.specs.inner.Channels.{IsChannel};
 
 // Moves every byte w to the left; zeros come in at the end.
 fn move_up(s: &mut [u8], w: usize)
@@ -32,7 +32,7 @@ fn move_up(s: &mut [u8], w: usize)
 
 // How many messages the channel holds.
 pub fn count(ch: &[u8]) -> u8
-    requires { ⌜ Held (now ch) ⌝ }
+    requires { ⌜ IsChannel (now ch) ⌝ }
     ensures { λ r. ⌜ r ≡ length (messagesOf (now (ch .entry))) ⌝ }
 {
     ch[0]
@@ -40,14 +40,14 @@ pub fn count(ch: &[u8]) -> u8
 
 // Removes the i-th message: the later ones present move up, and the freed slot is cleared.
 pub fn remove_at(ch: &mut [u8], i: usize)
-    requires { ⌜ Held (now ch) ⌝ }
+    requires { ⌜ IsChannel (now ch) ⌝ }
     requires { ⌜ i < length (messagesOf (now ch)) ⌝ }
     ensures { λ _. ⌜ now (ch .exit) ≡ channelBytes (removeAt i (messagesOf (now (ch .entry)))) ⌝ }
 {
     let n = ch[0];
-    let at = 1 + i * SIZE;
-    let end = 1 + (n as usize) * SIZE;
-    move_up(&mut ch[at..end], SIZE);
+    let at = 1 + i * MESSAGE_SIZE;
+    let end = 1 + (n as usize) * MESSAGE_SIZE;
+    move_up(&mut ch[at..end], MESSAGE_SIZE);
     ch[0] = n - 1;
 }
 
@@ -75,24 +75,24 @@ fn get_message(s: &[u8]) -> Message
 
 // A message goes out: it comes last.
 pub fn push(ch: &mut [u8], m: Message)
-    requires { ⌜ Held (now ch) ⌝ }
+    requires { ⌜ IsChannel (now ch) ⌝ }
     requires { ⌜ length (messagesOf (now ch)) < capacity ⌝ }
     ensures { λ _. ⌜ now (ch .exit) ≡ channelBytes (messagesOf (now (ch .entry)) ++ (m ∷ [])) ⌝ }
 {
     let n = ch[0];
-    let at = 1 + (n as usize) * SIZE;
-    put_message(&mut ch[at..at + SIZE], m);
+    let at = 1 + (n as usize) * MESSAGE_SIZE;
+    put_message(&mut ch[at..at + MESSAGE_SIZE], m);
     ch[0] = n + 1;
 }
 
 // The i-th message, from the oldest.
 pub fn message_at(ch: &[u8], i: usize) -> Message
-    requires { ⌜ Held (now ch) ⌝ }
+    requires { ⌜ IsChannel (now ch) ⌝ }
     requires { ⌜ i < length (messagesOf (now ch)) ⌝ }
     ensures { λ r. ⌜ r ≡ getD (messagesOf (now (ch .entry))) i noMessage ⌝ }
 {
-    let at = 1 + i * SIZE;
-    get_message(&ch[at..at + SIZE])
+    let at = 1 + i * MESSAGE_SIZE;
+    get_message(&ch[at..at + MESSAGE_SIZE])
 }
 
 fn is_of(m: Message, kind: u8, group: u8) -> bool
@@ -103,7 +103,7 @@ fn is_of(m: Message, kind: u8, group: u8) -> bool
 
 // How many messages of this kind and group the channel holds.
 pub fn count_of(ch: &[u8], kind: u8, group: u8) -> u8
-    requires { ⌜ Held (now ch) ⌝ }
+    requires { ⌜ IsChannel (now ch) ⌝ }
     ensures { λ r. ⌜ (r ≡ countOf kind group (messagesOf (now (ch .entry)))) × (r ≤ capacity) ⌝ }
 {
     let n = ch[0] as usize;

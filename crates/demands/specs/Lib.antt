@@ -1,2 +1,2 @@
 -- The bytes that a bench can come to.
-pub mod Reached
+pub mod Reachable

@@ -4,7 +4,6 @@ use mathlib.Core.Logic.{_≢_}
 use mathlib.Core.Bool.{Bool, true, false}
 use mathlib.Core.List.{List}
 use Prim.Native.Nat.{ℕ, suc, _+_, _-_, _≤_, _<_}
-use native.Mathlib.Nat.{add-zero, add-sub-cancel-left}
 use native.Mathlib.Numerals.{add-one}
 use native.Mathlib.Omega.{arith}
 use lib.Dec.{eqb}
@@ -12,19 +11,12 @@ use lib.ListN.{length, getD}
 use lib.Seq.{ext-getD}
 use borrow.Author.Tests.{eqb-true, eq-eqb}
 use Rattle.bits.proofs.Cases.{same-test, is-false}
-use Rattle.bits.specs.Parts.{part}
-use Rattle.bits.proofs.Parts.{lent, length-part, getD-part, part-lent, part-part}
 use Rattle.protocol.specs.Net.{Net}
 use Rattle.protocol.specs.Names.{sameName, firstFrom, find}
 use Rattle.protocol.proofs.Finds.{same-name, name-same, first-step, first-here, first-end, find-hit, find-miss}
-use Rattle.layout.specs.Layout.{byte, netLength, groups, groupAt, nameLength}
+use Rattle.layout.specs.Layout.{groups}
 use Rattle.layout.specs.Bounded.{allBelow}
 use Rattle.layout.proofs.Bounded.{all-at, all-of}
-use Rattle.plan.proofs.Plans.{name-at}
-use Rattle.shape.proofs.Nets.{plan-pass}
-use Rattle.net.specs.View.{nameOf, view}
-use Rattle.net.proofs.Shown.{plan-name}
-use Rattle.cells.specs.Ready.{Ready}
 use Rattle.find.specs.declared.Answer.the-variants.{Group, Refused}
 use Rattle.find.specs.Answers.{answerOf}
 
@@ -37,22 +29,6 @@ same-bytes a b n = same-test _ _
 -- and names of another length are not
 pub other-length : (a b : List ℕ) → length a ≢ length b → false ≡ sameName a b
 other-length a b n = sym (is-false (sameName a b) (λ t. n (ap (length {A = ℕ}) (same-name a b t))))
-
--- the name of group g, as it is lent: `at` and `n` are what the code computed
-module _ (l : List ℕ) (r : Ready l) (g at n : ℕ) (h : g < view l .groups) (i : at ≡ groupAt g + 1) (e : n ≡ nameLength l g) where
-  pub name-few : n ≤ 16
-  name-few = rw e (name-at l netLength (plan-pass l (r .good)) g (omega (arith, r .groupsAt)) .1)
-
-  pub name-lent : lent at (at + n - at) l ≡ view l .name g
-  unfolding view nameOf
-  name-lent =
-      let hg : g < groups l = omega (arith, r .groupsAt) in
-      rw add-sub-cancel-left
-      (part-lent n l at (omega (arith, name-few, r .long, r .fewGroups)) ∙ ap (part n l) i
-      ∙ sym (plan-name l g hg
-      ∙ ap (λ (k : ℕ). lent 1 k (part 17 l (groupAt g))) (getD-part 17 l (groupAt g) 0 (omega arith) ∙ ap (byte l) (add-zero (groupAt g)) ∙ sym e)
-      ∙ part-lent n (part 17 l (groupAt g)) 1 (omega (arith, name-few, length-part 17 l (groupAt g)))
-      ∙ part-part n 17 l (groupAt g) 1 (omega (arith, name-few))))
 
 -- ---- the search: no group before g has the name
 module _ (N : Net) (w : List ℕ) where

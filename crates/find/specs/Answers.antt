@@ -9,9 +9,9 @@ use Rattle.find.specs.declared.Answer.{Answer}
 use Rattle.find.specs.declared.Answer.the-variants.{Group, Refused}
 
 -- the outcome's number and the group of each answer: "a refusal returns its number with zeros for every other result"
-abbrev pub toldOf : Answer → Found
-toldOf (Group g) = record { outcome = 0; group = g }
-toldOf (Refused k) = record { outcome = k; group = 0 }
+abbrev pub foundOf : Answer → Found
+foundOf (Group g) = record { outcome = 0; group = g }
+foundOf (Refused k) = record { outcome = k; group = 0 }
 
 -- the answer that tells an outcome and a group: 0 is never refused
 abbrev pub answerBy : ℕ → ℕ → Answer

@@ -1,11 +1,10 @@
 // A group found by its full name.
-use bits::number::wide;
 ghost use mathlib.Core.Path.{_≡_};
 ghost use Prim.Native.Nat.{_<_};
 ghost use Rattle.protocol.specs.Net.{Net};
 ghost use Rattle.protocol.specs.Names as names;
 ghost use Rattle.net.specs.View.{view};
-ghost use Rattle.cells.specs.Ready.{Ready};
+ghost use Rattle.access.specs.inner.Nets.{IsNet};
 ghost use Rattle.find.specs.Answers.{answerOf, foundIn};
 
 // The answer: the number of a group, or the number of a refusal.
@@ -33,21 +32,19 @@ fn same_name(a: &[u8], b: &[u8]) -> bool
 
 // Whether group g has this name.
 fn has_name(net: &[u8], g: u8, name: &[u8]) -> bool
-    requires { ⌜ Ready (now net) ⌝ }
+    requires { ⌜ IsNet (now net) ⌝ }
     requires { ⌜ g < view (now net) .groups ⌝ }
     ensures { λ r. ⌜ r ≡ names.sameName (view (now (net .entry)) .name g) (now (name .entry)) ⌝ }
 {
-    let at = layout::place::group(wide(g));
-    let n = wide(net[at]);
-    same_name(&net[at + 1..at + 1 + n], name)
+    same_name(access::read::name_of(net, g), name)
 }
 
 // The first group that has this name, in bytes that are a net's.
 fn find_in(net: &[u8], name: &[u8]) -> Answer
-    requires { ⌜ Ready (now net) ⌝ }
+    requires { ⌜ IsNet (now net) ⌝ }
     ensures { λ r. ⌜ r ≡ answerOf (names.find (view (now (net .entry))) (now (name .entry))) ⌝ }
 {
-    let n = net[6];
+    let n = access::read::groups(net);
     let mut g: u8 = 0;
     while g < n {
         if has_name(net, g, name) {
@@ -62,7 +59,7 @@ fn find_in(net: &[u8], name: &[u8]) -> Answer
 pub fn find(net: &[u8], name: &[u8]) -> Answer
     ensures { λ r. ⌜ r ≡ answerOf (foundIn (now (net .entry)) (now (name .entry))) ⌝ }
 {
-    if shape::whole::is_net(net) {
+    if shape::whole::shaped(net) {
         find_in(net, name)
     } else {
         Answer::Refused(1)

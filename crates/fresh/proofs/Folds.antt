@@ -7,8 +7,8 @@ use Prim.Native.Nat.{ℕ, zero, suc, _≤_, _<_}
 use native.Mathlib.Omega.{arith}
 use Rattle.bits.proofs.Cases.{by-eq}
 use Rattle.protocol.specs.Net.{upd2}
-use Rattle.protocol.proofs.Maps.{upd2-hit, upd2-all}
-use Rattle.fresh.specs.Laying.{inRow, inRows}
+use Rattle.protocol.proofs.laws.Maps.{upd2-hit, upd2-all}
+use Rattle.fresh.specs.inner.Laying.{inRow, inRows}
 
 module _ {A B : Type 0} (put : A → ℕ → ℕ → A) (f : A → B) (same : (x : A) (i j : ℕ) → f (put x i j) ≡ f x) where
   row-kept : (x : A) (i m : ℕ) → f (inRow put x i m) ≡ f x

@@ -10,7 +10,7 @@ use lib.ListN.{length, getD, replicate, length-replicate}
 use Rattle.bits.specs.Numbers.{bytes}
 use Rattle.bits.specs.Parts.{part, splice}
 use Rattle.bits.proofs.Numbers.{length-bytes}
-use Rattle.bits.proofs.Parts.{length-splice, part-splice, part-splice-out, part-part, part-add, part-cong, splice-in}
+use Rattle.bits.proofs.Parts.{length-splice, part-splice, part-splice-out, part-part, part-add, part-cong, splice-in, part-right, getD-zeros}
 use Rattle.protocol.specs.declared.Entry.{Entry}
 use Rattle.protocol.specs.Net.{Net, nil, setEntry, setRoute}
 use Rattle.protocol.specs.Fresh.{Plan, blank, planOf, fresh}
@@ -18,18 +18,16 @@ use Rattle.channel.specs.Slots.{flat}
 use Rattle.channel.specs.Slots as slots
 use Rattle.channel.specs.Messages.{channelBytes}
 use Rattle.layout.specs.Layout.{netLength, planLength, stations, groups, groupAt, maskAt, routeAt, entryAt, channelAt}
-use Rattle.plan.specs.Planned.{planShaped}
-use Rattle.plan.proofs.Plans.{counts, plan-long, plan-small, plan-passes}
-use Rattle.net.specs.View.{used, planIn}
-use Rattle.net.specs.Encode.{ifUsed, entryBytes, header, routeCell, entryCell, channelCell, bytesOf}
-use Rattle.net.proofs.Cells.{part-right}
-use Rattle.net.proofs.Holds.{HoldsPlan, Holds, hold-bytes}
-use Rattle.net.proofs.Records.{zeros-past}
-use Rattle.net.proofs.Whole.{held-plan}
-use Rattle.net.proofs.Same.{bytes-same}
-use Rattle.net.proofs.Puts.{bytes-entry, bytes-route}
-use Rattle.fresh.specs.Laying.{inRows, routeGone, entryBlank, planLaid, laid}
+use Rattle.plan.specs.Planned.{ofVersion1, planShaped}
+use Rattle.plan.proofs.Plans.{counts, plan-long, plan-passes}
+use Rattle.net.specs.Encode.{entryBytes, bytesOf}
+use Rattle.fresh.specs.inner.Laying.{inRows, routeNil, entryBlank, planLaid, laid}
 use Rattle.fresh.proofs.Folds.{rows-kept, rows-read, rows-tied}
+use Rattle.forms.specs.Cells.{used, ifUsed}
+use Rattle.forms.specs.Plans.{planIn, headerBytes}
+use Rattle.forms.proofs.plan.Holds.{HoldsPlan}
+use Rattle.net.proofs.Saved.{Holds, hold-bytes, bytes-same, bytes-entry, bytes-route}
+use Rattle.forms.proofs.plan.Seen.{plan-held}
 
 -- ---- the net whose bytes are the plan's, and zeros
 abbrev bare : Entry
@@ -79,8 +77,8 @@ module _ (plan : List ℕ) (s : planShaped plan ≡ true) where
   n112 : length plan ≡ 112
   n112 = plan-long plan s
 
-  held : HoldsPlan P planLength plan
-  held = held-plan plan planLength (plan-passes plan s) (plan-small plan s)
+  held : HoldsPlan P (ofVersion1 planLength) plan
+  held = plan-held plan s
 
   -- past the length, the front is the plan's
   front : (w at : ℕ) → 4 ≤ at → at + w ≤ 112 → part w (planLaid plan) at ≡ part w plan at
@@ -95,17 +93,17 @@ module _ (plan : List ℕ) (s : planShaped plan ≡ true) where
   back w at h =
       part-splice-out w laid1 0 (bytes 4 netLength) at (inr (omega (arith, length-bytes 4 netLength)))
       ∙ part-splice-out w zeros 0 plan at (inr (omega (arith, n112)))
-      ∙ part-cong w zeros [] at 0 (λ x b. zeros-past netLength (at + x))
+      ∙ part-cong w zeros [] at 0 (λ x b. getD-zeros netLength (at + x))
 
   -- "version 1; stations n; groups g; zero"
   tail : part 4 plan 4 ≡ 1 ∷ P .stations ∷ P .groups ∷ 0 ∷ []
-  unfolding header part
+  unfolding headerBytes part
   tail =
       sym (part-part 4 8 plan 0 4 (omega arith)) ∙ ap (λ (l : List ℕ). part 4 l 4) (held .head)
       ∙ part-right 4 (bytes 4 planLength) (1 ∷ P .stations ∷ P .groups ∷ 0 ∷ []) (length-bytes 4 planLength) 0
 
-  head : part 8 (planLaid plan) 0 ≡ header P netLength
-  unfolding planLaid header bytes
+  head : part 8 (planLaid plan) 0 ≡ headerBytes P (ofVersion1 netLength)
+  unfolding planLaid headerBytes bytes
   head =
       part-add 4 4 (planLaid plan) 0
       ∙ ap₂ _++_ (part-splice laid1 0 (bytes 4 netLength) (omega (arith, length-bytes 4 netLength, length-splice zeros 0 plan, zeros-long)))
@@ -116,7 +114,6 @@ module _ (plan : List ℕ) (s : planShaped plan ≡ true) where
   laid-long = length-splice laid1 0 (bytes 4 netLength) ∙ length-splice zeros 0 plan ∙ zeros-long
 
   unlaid-held : Holds (unlaid P) (planLaid plan)
-  unfolding routeCell entryCell channelCell
   unlaid-held = record {
     long = laid-long;
     plan = record {
@@ -150,13 +147,13 @@ module _ (plan : List ℕ) (s : planShaped plan ≡ true) where
   Planned M = planOf M ≡ P
 
   few : stations plan ≤ 16
-  few = counts plan planLength (plan-passes plan s) .1
+  few = counts plan (ofVersion1 planLength) (plan-passes plan s) .1
 
   fewGroups : groups plan ≤ 4
-  fewGroups = counts plan planLength (plan-passes plan s) .3
+  fewGroups = counts plan (ofVersion1 planLength) (plan-passes plan s) .3
 
-  tied-route : (M : Net) (p d : ℕ) → Planned M → p < n → d < n → bytesOf (gone M p d) ≡ routeGone (bytesOf M) p d
-  unfolding routeGone planIn
+  tied-route : (M : Net) (p d : ℕ) → Planned M → p < n → d < n → bytesOf (gone M p d) ≡ routeNil (bytesOf M) p d
+  unfolding routeNil planIn
   tied-route M p d e h k =
       let st : M .stations ≡ n = ap (λ (Q : Plan). Q .stations) e in
       let gr : M .groups ≡ groups plan = ap (λ (Q : Plan). Q .groups) e in
@@ -177,8 +174,8 @@ module _ (plan : List ℕ) (s : planShaped plan ≡ true) where
   unfolding laid setRoute setEntry
   laid-all =
       ap (λ (l : List ℕ). inRows entryBlank l (groups plan) n)
-      (ap (λ (l : List ℕ). inRows routeGone l n n) (hold-bytes (unlaid P) (planLaid plan) unlaid-held)
-      ∙ sym (rows-tied gone routeGone bytesOf Planned n n (λ M p d e. e) tied-route (unlaid P) n n refl (omega arith) (omega arith)))
+      (ap (λ (l : List ℕ). inRows routeNil l n n) (hold-bytes (unlaid P) (planLaid plan) unlaid-held)
+      ∙ sym (rows-tied gone routeNil bytesOf Planned n n (λ M p d e. e) tied-route (unlaid P) n n refl (omega arith) (omega arith)))
       ∙ sym (rows-tied blanked entryBlank bytesOf Planned (groups plan) n (λ M g p e. e) tied-entry routed (groups plan) n
       (rows-kept gone (λ (M : Net). planOf M) (λ M p d. refl) (unlaid P) n n) (omega arith) (omega arith))
 

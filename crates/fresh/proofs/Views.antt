@@ -4,15 +4,14 @@ use mathlib.Core.Bool.{true}
 use mathlib.Core.List.{List}
 use Prim.Native.Nat.{ℕ}
 use Rattle.protocol.specs.Fresh.{fresh}
-use Rattle.protocol.proofs.Shapes.{fresh-shaped}
-use Rattle.layout.specs.Layout.{planLength}
+use Rattle.protocol.proofs.shape.Changes.{fresh-shaped}
 use Rattle.plan.specs.Planned.{planShaped}
-use Rattle.plan.proofs.Plans.{plan-small, plan-passes}
 use Rattle.shape.specs.Shape.{shaped}
-use Rattle.net.specs.View.{planIn, view}
+use Rattle.net.specs.View.{view}
 use Rattle.net.specs.Encode.{bytesOf}
-use Rattle.net.proofs.Seen.{seen-plan}
-use Rattle.net.proofs.Puts.{stands}
+use Rattle.forms.specs.Plans.{planIn}
+use Rattle.forms.proofs.plan.Seen.{plan-seen}
+use Rattle.net.proofs.Saved.{stands}
 
 pub fresh-view : (plan : List ℕ) → planShaped plan ≡ true → (shaped (bytesOf (fresh (planIn plan))) ≡ true) × (view (bytesOf (fresh (planIn plan))) ≡ fresh (planIn plan))
-fresh-view plan s = stands _ _ (fresh-shaped _ (seen-plan plan planLength (plan-passes plan s) (plan-small plan s))) refl
+fresh-view plan s = stands _ _ (fresh-shaped _ (plan-seen plan s)) refl

@@ -2,32 +2,34 @@
 use bits::copy::put;
 use bits::number::put32;
 use bits::number::wide;
+use layout::front;
 use layout::place;
 use protocol::Entry;
+use protocol::NIL;
 ghost use mathlib.Core.Path.{_≡_};
 ghost use Prim.Native.Nat.{_≤_, _<_};
 ghost use lib.ListN.{length};
 ghost use Rattle.protocol.specs.Net.{mostStations, mostGroups};
 ghost use Rattle.protocol.specs.Fresh.{blank};
 ghost use Rattle.layout.specs.Layout.{netLength, planLength, stations, groups};
-ghost use Rattle.fresh.specs.Fresh.{freshOutcome, freshLeaves};
-ghost use Rattle.fresh.specs.Laying.{inRow, inRows, routeGone, entryBlank, laid};
+ghost use Rattle.fresh.specs.Fresh.{freshOutcome, netAfterFresh};
+ghost use Rattle.fresh.specs.inner.Laying.{inRow, inRows, routeNil, entryBlank, laid};
 
 // Station p has no route to any of the n stations.
 fn routes_from(net: &mut [u8], p: usize, n: usize)
-    requires { ⌜ (length (now net) ≡ netLength) × (p < 16) × (n ≤ 16) ⌝ }
-    ensures { λ _. ⌜ now (net .exit) ≡ inRow routeGone (now (net .entry)) p n ⌝ }
+    requires { ⌜ (length (now net) ≡ netLength) × (p < mostStations) × (n ≤ mostStations) ⌝ }
+    ensures { λ _. ⌜ now (net .exit) ≡ inRow routeNil (now (net .entry)) p n ⌝ }
 {
     let mut d = 0;
     while d < n {
-        net[place::route(p, d)] = 255;
+        net[place::route_at(p, d)] = NIL;
         d += 1;
     }
 }
 
 fn routes(net: &mut [u8], n: usize)
-    requires { ⌜ (length (now net) ≡ netLength) × (n ≤ 16) ⌝ }
-    ensures { λ _. ⌜ now (net .exit) ≡ inRows routeGone (now (net .entry)) n n ⌝ }
+    requires { ⌜ (length (now net) ≡ netLength) × (n ≤ mostStations) ⌝ }
+    ensures { λ _. ⌜ now (net .exit) ≡ inRows routeNil (now (net .entry)) n n ⌝ }
 {
     let mut p = 0;
     while p < n {
@@ -36,12 +38,12 @@ fn routes(net: &mut [u8], n: usize)
     }
 }
 
-fn no_entry() -> Entry
+fn blank() -> Entry
     ensures { λ r. ⌜ r ≡ blank ⌝ }
 {
     Entry {
-        parent: 255,
-        tentative: 255,
+        parent: NIL,
+        tentative: NIL,
         member: 0,
         clock: 0,
         children: 0,
@@ -51,16 +53,16 @@ fn no_entry() -> Entry
 
 // The entry of station p in group g is blank.
 fn blank_entry(net: &mut [u8], g: usize, p: u8)
-    requires { ⌜ (length (now net) ≡ netLength) × (g < 4) × (p < 16) ⌝ }
+    requires { ⌜ (length (now net) ≡ netLength) × (g < mostGroups) × (p < mostStations) ⌝ }
     ensures { λ _. ⌜ now (net .exit) ≡ entryBlank (now (net .entry)) g p ⌝ }
 {
-    let a = place::entry_stretch(g);
-    cells::change::write_entry(&mut net[a..a + 192], p, no_entry());
+    let a = place::stretch_at(g);
+    access::change::write_entry(&mut net[a..a + place::STRETCH_SIZE], p, blank());
 }
 
 // So are those of the n stations.
 fn entries_of(net: &mut [u8], g: usize, n: u8)
-    requires { ⌜ (length (now net) ≡ netLength) × (g < 4) × (n ≤ 16) ⌝ }
+    requires { ⌜ (length (now net) ≡ netLength) × (g < mostGroups) × (n ≤ mostStations) ⌝ }
     ensures { λ _. ⌜ now (net .exit) ≡ inRow entryBlank (now (net .entry)) g n ⌝ }
 {
     let mut p: u8 = 0;
@@ -71,7 +73,7 @@ fn entries_of(net: &mut [u8], g: usize, n: u8)
 }
 
 fn entries(net: &mut [u8], groups: usize, n: u8)
-    requires { ⌜ (length (now net) ≡ netLength) × (groups ≤ 4) × (n ≤ 16) ⌝ }
+    requires { ⌜ (length (now net) ≡ netLength) × (groups ≤ mostGroups) × (n ≤ mostStations) ⌝ }
     ensures { λ _. ⌜ now (net .exit) ≡ inRows entryBlank (now (net .entry)) groups n ⌝ }
 {
     let mut g = 0;
@@ -86,22 +88,22 @@ fn lay(plan: &[u8], net: &mut [u8])
     requires { ⌜ (length (now plan) ≡ planLength) × (stations (now plan) ≤ mostStations) × (groups (now plan) ≤ mostGroups) × (length (now net) ≡ netLength) ⌝ }
     ensures { λ _. ⌜ now (net .exit) ≡ laid (now (plan .entry)) ⌝ }
 {
-    let n = plan[5];
-    layout::stretch::fill(net, 0);
+    let n = front::stations(plan);
+    bits::copy::fill(net, 0);
     put(net, 0, plan);
-    put32(net, 0, 15728);
+    put32(net, 0, place::NET_LENGTH as u32);
     routes(net, wide(n));
-    entries(net, wide(plan[6]), n);
+    entries(net, wide(front::groups(plan)), n);
 }
 
 // A fresh net into any buffer, from any bytes: its outcome number.
 pub fn fresh(plan: &[u8], net: &mut [u8]) -> u8
-    ensures { λ r. ⌜ (r ≡ freshOutcome (now (plan .entry)) (now (net .entry))) × (now (net .exit) ≡ freshLeaves (now (plan .entry)) (now (net .entry))) ⌝ }
+    ensures { λ r. ⌜ (r ≡ freshOutcome (now (plan .entry)) (now (net .entry))) × (now (net .exit) ≡ netAfterFresh (now (plan .entry)) (now (net .entry))) ⌝ }
 {
-    if net.len() != 15728 {
+    if net.len() != place::NET_LENGTH {
         return 10;
     }
-    if plan::whole::is_plan(plan) {
+    if plan::whole::plan_shaped(plan) {
         lay(plan, net);
         0
     } else {

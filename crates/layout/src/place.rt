@@ -1,50 +1,78 @@
-// The offsets of specs/Layout.antt, as the code computes them.
+// The lengths and offsets of specs/Layout.antt, as the code has them.
 ghost use mathlib.Core.Path.{_≡_};
 ghost use Prim.Native.Nat.{_+_, _≤_, _<_};
-ghost use Rattle.layout.specs.Layout.{groupAt, maskAt, routeAt, stretchAt, entryAt, channelAt};
+ghost use Rattle.protocol.specs.Net.{mostGroups, mostStations};
+ghost use Rattle.layout.specs.Layout.{groupAt, maskAt, routeAt, stretchAt, entryAt, channelAt, channelSize, channelsAt, entriesAt, entrySize, groupSize, masksAt, netLength, routesAt, stretchSize};
 
-pub const NET: usize = 15728;
+pub const NET_LENGTH: usize = 15728;
 
-pub const PLAN: usize = 112;
+pub const PLAN_LENGTH: usize = 112;
 
-pub fn group(g: usize) -> usize
-    requires { ⌜ g < 4 ⌝ }
-    ensures { λ r. ⌜ (r ≡ groupAt g) × (r + 18 ≤ 80) ⌝ }
+pub const GROUPS_AT: usize = 8;
+
+pub const GROUP_SIZE: usize = 18;
+
+// in a group, behind its length and its name
+pub const ROOT_AT: usize = 17;
+
+pub const MASKS_AT: usize = 80;
+
+pub const ROUTES_AT: usize = 112;
+
+pub const ROUTE_ROW: usize = 16;
+
+pub const ENTRIES_AT: usize = 368;
+
+pub const ENTRY_SIZE: usize = 12;
+
+pub const STRETCH_SIZE: usize = 192;
+
+pub const CHANNELS_AT: usize = 1136;
+
+pub const CHANNEL_SIZE: usize = 57;
+
+pub const CHANNEL_ROW: usize = 912;
+
+pub const MESSAGE_SIZE: usize = 7;
+
+pub fn group_at(g: usize) -> usize
+    requires { ⌜ g < mostGroups ⌝ }
+    ensures { λ r. ⌜ (r ≡ groupAt g) × (r + groupSize ≤ masksAt) ⌝ }
 {
-    8 + 18 * g
+    GROUPS_AT + GROUP_SIZE * g
 }
 
-pub fn mask(p: usize) -> usize
-    requires { ⌜ p < 16 ⌝ }
-    ensures { λ r. ⌜ (r ≡ maskAt p) × (r + 2 ≤ 112) ⌝ }
+pub fn mask_at(p: usize) -> usize
+    requires { ⌜ p < mostStations ⌝ }
+    ensures { λ r. ⌜ (r ≡ maskAt p) × (r + 2 ≤ routesAt) ⌝ }
 {
-    80 + 2 * p
+    MASKS_AT + 2 * p
 }
 
-pub fn route(p: usize, d: usize) -> usize
-    requires { ⌜ (p < 16) × (d < 16) ⌝ }
-    ensures { λ r. ⌜ (r ≡ routeAt p d) × (r < 368) ⌝ }
+pub fn route_at(p: usize, d: usize) -> usize
+    requires { ⌜ (p < mostStations) × (d < mostStations) ⌝ }
+    ensures { λ r. ⌜ (r ≡ routeAt p d) × (r < entriesAt) ⌝ }
 {
-    112 + 16 * p + d
+    ROUTES_AT + ROUTE_ROW * p + d
 }
 
-pub fn entry_stretch(g: usize) -> usize
-    requires { ⌜ g < 4 ⌝ }
-    ensures { λ r. ⌜ (r ≡ stretchAt g) × (r + 192 ≤ 1136) ⌝ }
+pub fn stretch_at(g: usize) -> usize
+    requires { ⌜ g < mostGroups ⌝ }
+    ensures { λ r. ⌜ (r ≡ stretchAt g) × (r + stretchSize ≤ channelsAt) ⌝ }
 {
-    368 + 192 * g
+    ENTRIES_AT + STRETCH_SIZE * g
 }
 
-pub fn entry(g: usize, p: usize) -> usize
-    requires { ⌜ (g < 4) × (p < 16) ⌝ }
-    ensures { λ r. ⌜ (r ≡ entryAt g p) × (r + 12 ≤ 1136) ⌝ }
+pub fn entry_at(g: usize, p: usize) -> usize
+    requires { ⌜ (g < mostGroups) × (p < mostStations) ⌝ }
+    ensures { λ r. ⌜ (r ≡ entryAt g p) × (r + entrySize ≤ channelsAt) ⌝ }
 {
-    368 + 192 * g + 12 * p
+    ENTRIES_AT + STRETCH_SIZE * g + ENTRY_SIZE * p
 }
 
-pub fn channel(s: usize, d: usize) -> usize
-    requires { ⌜ (s < 16) × (d < 16) ⌝ }
-    ensures { λ r. ⌜ (r ≡ channelAt s d) × (r + 57 ≤ 15728) ⌝ }
+pub fn channel_at(s: usize, d: usize) -> usize
+    requires { ⌜ (s < mostStations) × (d < mostStations) ⌝ }
+    ensures { λ r. ⌜ (r ≡ channelAt s d) × (r + channelSize ≤ netLength) ⌝ }
 {
-    1136 + 912 * s + 57 * d
+    CHANNELS_AT + CHANNEL_ROW * s + CHANNEL_SIZE * d
 }

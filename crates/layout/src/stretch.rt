@@ -1,7 +1,7 @@
-// Stretches of bytes: tests of one, which go on to its end, so that the compiler can take many bytes at a time; and one filled.
+// Tests of a stretch of bytes. They go on to its end, so that the compiler can take many bytes at a time.
 ghost use mathlib.Core.Path.{_≡_};
 ghost use Prim.Native.Nat.{_+_, _≤_};
-ghost use lib.ListN.{length, replicate};
+ghost use lib.ListN.{length};
 ghost use Rattle.layout.specs.Bounded.{zeros, same};
 
 // Whether the bytes from a up to e are zero.
@@ -27,16 +27,4 @@ pub fn all_same(s: &[u8], a: usize, b: usize, n: usize) -> bool
         ok = ok & (s[a + i] == s[b + i]);
     }
     ok
-}
-
-// Every byte becomes v.
-pub fn fill(s: &mut [u8], v: u8)
-    ensures { λ _. ⌜ now (s .exit) ≡ replicate (length (now (s .entry))) v ⌝ }
-{
-    let n = s.len();
-    let mut i = 0;
-    while i < n {
-        s[i] = v;
-        i += 1;
-    }
 }

@@ -1,3 +1,5 @@
 -- The laws of lent records.
-pub mod Filled
 pub mod Walks
+pub mod Tallies
+pub mod Filled
+pub mod Fillings

@@ -3,30 +3,30 @@ use tree::Reach;
 ghost use mathlib.Core.Path.{_≡_};
 ghost use Prim.Native.Nat.{_<_};
 ghost use lib.ListN.{length};
-ghost use Rattle.lent.specs.Lists.{toldOf, calledOn, reachLeaves};
-ghost use Rattle.lent.specs.Walking.{walkOf, lineAt, Walked};
+ghost use Rattle.lent.specs.Lists.{calledRecord, calledOn, recordsAfterCall};
+ghost use Rattle.lent.specs.inner.Filling.{fillingOf, reachAt, FillsList};
 
 // What a call tells: its outcome number, how many are reached and how many copies are made.
-pub struct Told {
+pub struct Called {
     pub outcome: u8,
     pub reached: u8,
     pub copies: u8,
 }
 
-// What the walk over bytes gave: the answer, how many entries are to be filled, and their bytes.
-pub struct Walk {
-    pub told: Told,
+// What the call over bytes gave: the answer, how many entries are to be filled, and their bytes.
+pub struct Filling {
+    pub called: Called,
     pub fill: usize,
     pub bytes: [u8; 48],
 }
 
 // An answer and the bytes beside it: 16 entries are to be filled, and none on a refusal.
-fn tell(answer: call::Answer, bytes: [u8; 48]) -> Walk
-    ensures { λ r. ⌜ r ≡ walkOf answer bytes ⌝ }
+fn filling_of(answer: call::Answer, bytes: [u8; 48]) -> Filling
+    ensures { λ r. ⌜ r ≡ fillingOf answer bytes ⌝ }
 {
     match answer {
-        call::Answer::Reached(r, k) => Walk {
-            told: Told {
+        call::Answer::Reached(r, k) => Filling {
+            called: Called {
                 outcome: 0,
                 reached: r,
                 copies: k,
@@ -34,8 +34,8 @@ fn tell(answer: call::Answer, bytes: [u8; 48]) -> Walk
             fill: 16,
             bytes,
         },
-        call::Answer::Refused(o) => Walk {
-            told: Told {
+        call::Answer::Refused(o) => Filling {
+            called: Called {
                 outcome: o,
                 reached: 0,
                 copies: 0,
@@ -47,23 +47,23 @@ fn tell(answer: call::Answer, bytes: [u8; 48]) -> Walk
 }
 
 // The call over bytes, for a list of n entries: any other number than 16 is a list of the wrong size.
-fn walked(net: &[u8], g: u8, c: u8, n: usize) -> Walk
-    ensures { λ r. ⌜ Walked (now (net .entry)) g c n r ⌝ }
+fn call_bytes(net: &[u8], g: u8, c: u8, n: usize) -> Filling
+    ensures { λ r. ⌜ FillsList (now (net .entry)) g c n r ⌝ }
 {
     let mut bytes = [255u8; 48];
     if n == 16 {
         let answer = call::call(net, g, c, &mut bytes);
-        tell(answer, bytes)
+        filling_of(answer, bytes)
     } else {
         let answer = call::call(net, g, c, &mut bytes[0..0]);
-        tell(answer, bytes)
+        filling_of(answer, bytes)
     }
 }
 
 // Entry i of the bytes.
-fn line(k: Walk, i: usize) -> Reach
+fn reach_at(k: Filling, i: usize) -> Reach
     requires { ⌜ i < 16 ⌝ }
-    ensures { λ r. ⌜ r ≡ lineAt (k .bytes) i ⌝ }
+    ensures { λ r. ⌜ r ≡ reachAt (k .bytes) i ⌝ }
 {
     let bytes = k.bytes;
     let at = 3 * i;
@@ -75,16 +75,16 @@ fn line(k: Walk, i: usize) -> Reach
 }
 
 // The call of any station of any group in any bytes, into any list of records.
-pub fn call(net: &[u8], g: u8, c: u8, list: &mut [Reach]) -> Told
-    ensures { λ r. ⌜ (r ≡ toldOf (calledOn (now (net .entry)) g c (length (now (list .entry)))))
-        × (now (list .exit) ≡ reachLeaves (now (net .entry)) g c (now (list .entry))) ⌝ }
+pub fn call(net: &[u8], g: u8, c: u8, list: &mut [Reach]) -> Called
+    ensures { λ r. ⌜ (r ≡ calledRecord (calledOn (now (net .entry)) g c (length (now (list .entry)))))
+        × (now (list .exit) ≡ recordsAfterCall (now (net .entry)) g c (now (list .entry))) ⌝ }
 {
-    let k = walked(net, g, c, list.len());
+    let k = call_bytes(net, g, c, list.len());
     let m = k.fill;
     let mut i = 0;
     while i < m {
-        list[i] = line(k, i);
+        list[i] = reach_at(k, i);
         i += 1;
     }
-    k.told
+    k.called
 }

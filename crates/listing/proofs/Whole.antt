@@ -1,40 +1,24 @@
 -- What the program prints from the bytes that it stores is what the bench prints for the whole input.
-use mathlib.Core.Path.{_≡_, refl, ap}
+use mathlib.Core.Path.{_≡_, refl}
 use mathlib.Core.Bool.{false}
-use mathlib.Core.List.{List, [], _∷_}
-use Prim.Native.Nat.{ℕ, zero, suc, _+_, _-_, _≤_, _<_}
+use mathlib.Core.List.{List}
+use Prim.Native.Nat.{ℕ, _+_, _-_, _≤_, _<_}
 use native.Mathlib.Omega.{arith}
 use native.Mathlib.Nat.{add-zero}
 use lib.ListN.{length, take, length-drop}
+use lib.Seq.{length-take-le, take-all, take-take}
 use lib.Dec.{eqb}
 use borrow.Author.Tests.{ne-eqb}
 use Rattle.bits.proofs.Cases.{by-lt}
 use Rattle.protocol.specs.Steps.{orElse}
-use Rattle.protocol.proofs.Steps.{orElse-pass}
-use Rattle.protocol.specs.Runs.{lengthOutcome, scriptOutcome}
+use Rattle.protocol.proofs.steps.Steps.{orElse-pass}
+use Rattle.protocol.specs.Runs.{longestScript, lengthOutcome, scriptOutcome}
 use Rattle.layout.specs.Layout.{planLength}
 use Rattle.plan.specs.Planned.{planShaped}
 use Rattle.run.proofs.Lengths.{length-fits}
 use Rattle.listing.specs.Bench.{planPart, scriptPart, storedLength, benchOutcome, benchText, storedOutcome, storedText}
 
-take-all : (k : ℕ) (l : List ℕ) → length l ≤ k → take k l ≡ l
-take-all zero [] h = refl
-take-all zero (x ∷ l) h = absurd (omega (arith, h))
-take-all (suc k) [] h = refl
-take-all (suc k) (x ∷ l) h = ap (x ∷_) (take-all k l (omega arith))
-
-take-take : (j k : ℕ) (l : List ℕ) → j ≤ k → take j (take k l) ≡ take j l
-take-take zero k l h = refl
-take-take (suc j) zero l h = absurd (omega (arith, h))
-take-take (suc j) (suc k) [] h = refl
-take-take (suc j) (suc k) (x ∷ l) h = ap (x ∷_) (take-take j k l (omega arith))
-
-length-take : (k : ℕ) (l : List ℕ) → k ≤ length l → length (take k l) ≡ k
-length-take zero l h = refl
-length-take (suc k) [] h = absurd (omega (arith, h))
-length-take (suc k) (x ∷ l) h = ap suc (length-take k l (omega arith))
-
-module _ (input : List ℕ) (k : ℕ) (size : k ≡ planLength + 16384) where
+module _ (input : List ℕ) (k : ℕ) (size : k ≡ planLength + longestScript) where
   -- all of the input is stored
   all-stored : length input ≤ k → storedText (take k input) (length input - k) ≡ benchText input
   unfolding storedText storedOutcome benchText benchOutcome scriptOutcome
@@ -51,7 +35,7 @@ module _ (input : List ℕ) (k : ℕ) (size : k ≡ planLength + 16384) where
     same-plan = take-take planLength k input (omega arith)
 
     same-length : length (scriptPart stored) + (length input - k) ≡ length (scriptPart input)
-    same-length = omega (arith, length-drop planLength stored, length-drop planLength input, length-take k input (omega arith))
+    same-length = omega (arith, length-drop planLength stored, length-drop planLength input, length-take-le k input (omega arith))
 
     same-outcome : storedOutcome stored (length input - k) ≡ benchOutcome input
     unfolding storedOutcome benchOutcome scriptOutcome
@@ -59,8 +43,9 @@ module _ (input : List ℕ) (k : ℕ) (size : k ≡ planLength + 16384) where
 
     refused : eqb (benchOutcome input) 0 ≡ false
     unfolding benchOutcome scriptOutcome
-    refused = ne-eqb _ 0 (λ e. let fits = length-fits (length (scriptPart input)) (orElse-pass (planShaped (planPart input)) 9 (lengthOutcome (length (scriptPart input))) 0 (λ i. omega arith) e .1) in
-        omega (arith, fits, length-drop planLength input))
+    refused = ne-eqb _ 0
+        (λ e. let w = orElse-pass (planShaped (planPart input)) 9 (lengthOutcome (length (scriptPart input))) 0 (λ i. omega arith) e .1 in
+        omega (arith, length-fits (length (scriptPart input)) w, length-drop planLength input))
 
     part-stored : storedText stored (length input - k) ≡ benchText input
     unfolding storedText benchText

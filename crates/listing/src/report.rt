@@ -1,39 +1,46 @@
 // The report on an input: the listing, or the refusal.
 use crate::lines;
-use bits::copy::put;
-use text::put_item;
+use layout::place::NET_LENGTH;
+use layout::place::PLAN_LENGTH;
+ghost use mathlib.Core.Path.{_≡_};
 ghost use Prim.Native.Nat.{_≤_, _<_};
 ghost use lib.ListN.{length};
 ghost use Rattle.bits.specs.Parts.{Wrote};
-ghost use Rattle.listing.specs.Lines.{refusedText};
-ghost use Rattle.listing.specs.Bench.{storedText};
+ghost use Rattle.protocol.specs.Fresh.{fresh};
+ghost use Rattle.layout.specs.Layout.{netLength};
+ghost use Rattle.net.specs.Encode.{bytesOf};
+ghost use Rattle.listing.specs.Bench.{planPart, textRoom, storedOutcome, storedText};
+ghost use Rattle.forms.specs.Plans.{planIn};
 
-fn refused(out: &mut [u8], k: u8) -> usize
-    requires { ⌜ 16640 ≤ length (now out) ⌝ }
-    ensures { λ r. ⌜ Wrote (now (out .entry)) (now (out .exit)) 0 r (refusedText k) × (r ≤ 16640) ⌝ }
+// `storedLength` and `textRoom` of specs/Bench.antt: a plan and the longest script, and room for every text.
+pub const STORED_LENGTH: usize = 16496;
+
+pub const TEXT_ROOM: usize = 16640;
+
+// What the input is refused with, or 0: then the net is fresh from its plan.
+fn stored_outcome(stored: &[u8], beyond: usize, net: &mut [u8]) -> u8
+    requires { ⌜ (beyond < 9223372036854775808) × (length (now net) ≡ netLength) ⌝ }
+    ensures { λ r. ⌜ (r ≡ storedOutcome (now (stored .entry)) beyond) × (r ≡ 0 → now (net .exit) ≡ bytesOf (fresh (planIn (planPart (now (stored .entry)))))) ⌝ }
 {
-    let next = put_item(out, 0, b"refused ", k as u32);
-    put(out, next, b"\n")
+    if stored.len() < PLAN_LENGTH {
+        return 9;
+    }
+    if fresh::fresh(&stored[0..PLAN_LENGTH], net) != 0 {
+        return 9;
+    }
+    run::length_outcome(stored.len() - PLAN_LENGTH + beyond)
 }
 
 // The report on the bytes that are stored of an input, where `beyond` more were counted.
 pub fn report(stored: &[u8], beyond: usize, out: &mut [u8]) -> usize
-    requires { ⌜ (16640 ≤ length (now out)) × (beyond < 9223372036854775808) ⌝ }
-    ensures { λ r. ⌜ Wrote (now (out .entry)) (now (out .exit)) 0 r (storedText (now (stored .entry)) beyond) × (r ≤ 16640) ⌝ }
+    requires { ⌜ (textRoom ≤ length (now out)) × (beyond < 9223372036854775808) ⌝ }
+    ensures { λ r. ⌜ Wrote (now (out .entry)) (now (out .exit)) 0 r (storedText (now (stored .entry)) beyond) × (r ≤ textRoom) ⌝ }
 {
-    if stored.len() < 112 {
-        return refused(out, 9);
-    }
-    let mut net = [0u8; 15728];
-    if fresh::fresh(&stored[0..112], &mut net) != 0 {
-        return refused(out, 9);
-    }
-    let k = run::script_outcome(stored.len() - 112 + beyond);
+    let mut net = [0u8; NET_LENGTH];
+    let k = stored_outcome(stored, beyond, &mut net);
     if k != 0 {
-        return refused(out, k);
+        return lines::refused_text(out, k);
     }
-    let ran = run::run(&mut net, &stored[112..]);
-    let t = ran.tally;
-    let next = lines::run_line(out, 0, t, t.sent - t.delivered - t.lost);
-    lines::groups(&net, out, next)
+    let ran = run::run(&mut net, &stored[PLAN_LENGTH..]);
+    lines::listing(&net, ran.tally, out)
 }

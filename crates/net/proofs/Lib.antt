@@ -1,11 +1,3 @@
-pub mod Cells
-pub mod Holds
 pub mod Records
-pub mod Shown
-pub mod Seen
-pub mod Whole
-pub mod Back
-pub mod PlanPasses
-pub mod Passes
-pub mod Puts
-pub mod Same
+pub mod Codecs
+pub mod Saved

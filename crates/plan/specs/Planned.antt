@@ -13,10 +13,21 @@ use Rattle.layout.specs.Bounded.{allBelow, allBytes, _implies_, zeros, same, ta
 abbrev pub between : ℕ → ℕ → ℕ → Bool
 between low high x = leb low x && leb x high
 
+-- what the header fixes: how many bytes there are in all, the version, and byte 7
+pub record Header : Type 0 where
+  pub size : ℕ
+  pub version : ℕ
+  pub byte7 : ℕ
+
+-- "version 1; .. 7: zero"
+abbrev pub ofVersion1 : ℕ → Header
+ofVersion1 size = record { size = size; version = 1; byte7 = 0 }
+
 -- "length, version and zero bytes as in the table; n and g in range". The length is that of the whole
-unfoldable pub headed : List ℕ → ℕ → Bool
-headed l size =
-    eqb (numberAt 4 l 0) size && eqb (byte l 4) 1 && between 1 mostStations (stations l) && between 1 mostGroups (groups l) && eqb (byte l 7) 0
+unfoldable pub headerShaped : List ℕ → Header → Bool
+headerShaped l h =
+    eqb (numberAt 4 l 0) (h .size) && eqb (byte l 4) (h .version) && between 1 mostStations (stations l) && between 1 mostGroups (groups l)
+    && eqb (byte l 7) (h .byte7)
 
 -- "name length 1 to 16, padding zero", "each root below n"
 unfoldable pub groupShaped : List ℕ → ℕ → ℕ → Bool
@@ -33,22 +44,22 @@ unfoldable pub newName : List ℕ → ℕ → Bool
 newName l a = allBelow a (λ b. not (sameNames l a b))
 
 -- "names distinct (any byte values)"
-unfoldable pub distinct : List ℕ → ℕ → Bool
-distinct l g = allBelow g (newName l)
+unfoldable pub namesDistinct : List ℕ → ℕ → Bool
+namesDistinct l g = allBelow g (newName l)
 
 -- if station p has q for a neighbour, q has p
-unfoldable pub answered : List ℕ → ℕ → ℕ → Bool
-answered l p q = has (neighbours l p) q implies has (neighbours l q) p
+unfoldable pub bothWays : List ℕ → ℕ → ℕ → Bool
+bothWays l p q = has (neighbours l p) q implies has (neighbours l q) p
 
 -- "masks name stations below n; the neighbour relation is symmetric and no station neighbours itself"
-unfoldable pub cabled : List ℕ → ℕ → ℕ → Bool
-cabled l n p = below n (neighbours l p) && not (has (neighbours l p) p) && allBelow n (answered l p)
+unfoldable pub stationCabled : List ℕ → ℕ → ℕ → Bool
+stationCabled l n p = below n (neighbours l p) && not (has (neighbours l p) p) && allBelow n (bothWays l p)
 
--- the header, the groups and the cables, of a plan or a net of this size
-unfoldable pub planned : List ℕ → ℕ → Bool
-planned l size =
-    headed l size && table l 8 groupSize mostGroups (groups l) (groupShaped l (stations l)) && distinct l (groups l)
-    && table l 80 2 mostStations (stations l) (cabled l (stations l))
+-- the header, the groups and the cables, of a plan or a net with this header
+unfoldable pub planned : List ℕ → Header → Bool
+planned l h =
+    headerShaped l h && table l 8 groupSize mostGroups (groups l) (groupShaped l (stations l)) && namesDistinct l (groups l)
+    && table l 80 2 mostStations (stations l) (stationCabled l (stations l))
 
 unfoldable pub planShaped : List ℕ → Bool
-planShaped l = eqb (length l) planLength && allBytes l && planned l planLength
+planShaped l = eqb (length l) planLength && allBytes l && planned l (ofVersion1 planLength)

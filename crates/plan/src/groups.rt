@@ -1,58 +1,73 @@
 // The header and the groups.
 use bits::number::wide;
+use layout::front::groups;
+use layout::front::stations;
+use layout::place::GROUP_SIZE;
+use layout::place::GROUPS_AT;
+use layout::place::MASKS_AT;
+use layout::place::ROOT_AT;
+use layout::place::group_at;
+use layout::stretch::all_zero;
+use protocol::LONGEST_NAME;
+use protocol::MOST_GROUPS;
+use protocol::MOST_STATIONS;
 ghost use mathlib.Core.Path.{_≡_};
 ghost use Prim.Native.Nat.{_≤_, _<_};
 ghost use lib.ListN.{length};
+ghost use Rattle.protocol.specs.Net.{mostGroups};
 ghost use Rattle.layout.specs.Bounded.{table};
+ghost use Rattle.layout.specs.Layout.{planLength};
 ghost use Rattle.plan.specs.Planned as planned;
 
 // The first eight bytes of a plan or a net of this size.
-pub fn header(s: &[u8], size: u32) -> bool
-    requires { ⌜ 112 ≤ length (now s) ⌝ }
-    ensures { λ r. ⌜ r ≡ planned.headed (now (s .entry)) size ⌝ }
+pub fn header_shaped(s: &[u8], size: u32) -> bool
+    requires { ⌜ planLength ≤ length (now s) ⌝ }
+    ensures { λ r. ⌜ r ≡ planned.headerShaped (now (s .entry)) (planned.ofVersion1 size) ⌝ }
 {
+    let n = wide(stations(s));
+    let g = wide(groups(s));
     (bits::number::get32(s, 0) == size)
         & (s[4] == 1)
-        & ((1 <= s[5]) & (s[5] <= 16))
-        & ((1 <= s[6]) & (s[6] <= 4))
+        & ((1 <= n) & (n <= MOST_STATIONS))
+        & ((1 <= g) & (g <= MOST_GROUPS))
         & (s[7] == 0)
 }
 
 // Group g: its name's length and padding, and its root.
-pub fn group_shaped(s: &[u8], n: usize, g: usize) -> bool
-    requires { ⌜ (112 ≤ length (now s)) × (g < 4) ⌝ }
+fn group_shaped(s: &[u8], n: usize, g: usize) -> bool
+    requires { ⌜ (planLength ≤ length (now s)) × (g < mostGroups) ⌝ }
     ensures { λ r. ⌜ r ≡ planned.groupShaped (now (s .entry)) n g ⌝ }
 {
-    let at = layout::place::group(g);
-    let m = wide(s[at]);
-    if 16 < m {
+    let m = wide(layout::front::name_length(s, g));
+    if LONGEST_NAME < m {
         return false;
     }
-    (1 <= m) & layout::stretch::all_zero(s, at + 1 + m, at + 17) & (wide(s[at + 17]) < n)
+    let at = group_at(g);
+    (1 <= m) & all_zero(s, at + 1 + m, at + ROOT_AT) & (wide(layout::front::root(s, g)) < n)
 }
 
-pub fn groups(s: &[u8], n: usize, g: usize) -> bool
-    requires { ⌜ (112 ≤ length (now s)) × (g ≤ 4) ⌝ }
+pub fn groups_shaped(s: &[u8], n: usize, g: usize) -> bool
+    requires { ⌜ (planLength ≤ length (now s)) × (g ≤ mostGroups) ⌝ }
     ensures { λ r. ⌜ r ≡ table (now (s .entry)) 8 18 4 g (planned.groupShaped (now (s .entry)) n) ⌝ }
 {
     let mut ok = true;
     for k in 0..g {
         ok = ok & group_shaped(s, n, k);
     }
-    ok & layout::stretch::all_zero(s, 8 + 18 * g, 80)
+    ok & all_zero(s, GROUPS_AT + GROUP_SIZE * g, MASKS_AT)
 }
 
 // Whether groups a and b have the same name.
-pub fn same_names(s: &[u8], a: usize, b: usize) -> bool
-    requires { ⌜ (112 ≤ length (now s)) × (a < 4) × (b < 4) ⌝ }
+fn same_names(s: &[u8], a: usize, b: usize) -> bool
+    requires { ⌜ (planLength ≤ length (now s)) × (a < mostGroups) × (b < mostGroups) ⌝ }
     ensures { λ r. ⌜ r ≡ planned.sameNames (now (s .entry)) a b ⌝ }
 {
-    layout::stretch::all_same(s, layout::place::group(a), layout::place::group(b), 17)
+    layout::stretch::all_same(s, group_at(a), group_at(b), ROOT_AT)
 }
 
 // Whether no group before a has its name.
-pub fn new_name(s: &[u8], a: usize) -> bool
-    requires { ⌜ (112 ≤ length (now s)) × (a < 4) ⌝ }
+fn new_name(s: &[u8], a: usize) -> bool
+    requires { ⌜ (planLength ≤ length (now s)) × (a < mostGroups) ⌝ }
     ensures { λ r. ⌜ r ≡ planned.newName (now (s .entry)) a ⌝ }
 {
     let mut ok = true;
@@ -63,8 +78,8 @@ pub fn new_name(s: &[u8], a: usize) -> bool
 }
 
 pub fn names_distinct(s: &[u8], g: usize) -> bool
-    requires { ⌜ (112 ≤ length (now s)) × (g ≤ 4) ⌝ }
-    ensures { λ r. ⌜ r ≡ planned.distinct (now (s .entry)) g ⌝ }
+    requires { ⌜ (planLength ≤ length (now s)) × (g ≤ mostGroups) ⌝ }
+    ensures { λ r. ⌜ r ≡ planned.namesDistinct (now (s .entry)) g ⌝ }
 {
     let mut ok = true;
     for a in 0..g {

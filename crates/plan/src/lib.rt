@@ -1,4 +1,4 @@
 // Whether bytes are a well-shaped plan: the header, the groups and the cables, which a net has too.
-pub mod cables;
+mod cables;
 mod groups;
 pub mod whole;

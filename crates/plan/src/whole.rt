@@ -1,32 +1,36 @@
 // The whole of a plan, and the part of a net that is as in a plan.
 use bits::number::wide;
+use layout::front::groups;
+use layout::front::stations;
+use layout::place::PLAN_LENGTH;
 ghost use mathlib.Core.Path.{_≡_};
 ghost use Prim.Native.Nat.{_≤_};
 ghost use lib.ListN.{length};
-ghost use Rattle.plan.specs.Planned.{planned, planShaped};
+ghost use Rattle.layout.specs.Layout.{planLength};
+ghost use Rattle.plan.specs.Planned.{ofVersion1, planned, planShaped};
 
 // What a plan and a net have in common.
-pub fn plan_part(s: &[u8], size: u32) -> bool
-    requires { ⌜ 112 ≤ length (now s) ⌝ }
-    ensures { λ r. ⌜ r ≡ planned (now (s .entry)) size ⌝ }
+pub fn planned(s: &[u8], size: u32) -> bool
+    requires { ⌜ planLength ≤ length (now s) ⌝ }
+    ensures { λ r. ⌜ r ≡ planned (now (s .entry)) (ofVersion1 size) ⌝ }
 {
-    if crate::groups::header(s, size) {
-        let n = wide(s[5]);
-        let g = wide(s[6]);
-        crate::groups::groups(s, n, g)
+    if crate::groups::header_shaped(s, size) {
+        let n = wide(stations(s));
+        let g = wide(groups(s));
+        crate::groups::groups_shaped(s, n, g)
             & crate::groups::names_distinct(s, g)
-            & crate::cables::cables(s, n)
+            & crate::cables::cables_shaped(s, n)
     } else {
         false
     }
 }
 
 // Whether the bytes are a well-shaped plan.
-pub fn is_plan(s: &[u8]) -> bool
+pub fn plan_shaped(s: &[u8]) -> bool
     ensures { λ r. ⌜ r ≡ planShaped (now (s .entry)) ⌝ }
 {
-    if s.len() != 112 {
+    if s.len() != PLAN_LENGTH {
         return false;
     }
-    plan_part(s, 112)
+    planned(s, PLAN_LENGTH as u32)
 }

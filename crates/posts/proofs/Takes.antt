@@ -5,16 +5,16 @@ use mathlib.Core.List.{List}
 use Prim.Native.Nat.{ℕ, _<_}
 use Rattle.protocol.specs.declared.Entry.{Entry}
 use Rattle.protocol.specs.Net.{Net, setEntry, setChannel, takeAt}
-use Rattle.protocol.specs.Entries.{listing}
+use Rattle.protocol.specs.Entries.{withChild}
 use Rattle.protocol.specs.Rules.{oldest, room?}
 use Rattle.protocol.specs.Shaped.{Shaped}
-use Rattle.protocol.proofs.Keeps.{near-cable, oldest-good, answer-entry, taken-room}
+use Rattle.protocol.proofs.Keeps.{near-cable, oldest-shaped, answer-entry, taken-room}
 use Rattle.protocol.proofs.Shapes.{take-shaped}
 use Rattle.net.specs.View.{view}
 use Rattle.net.specs.Encode.{bytesOf}
-use Rattle.cells.specs.Ready.{Ready}
-use Rattle.cells.proofs.Cells.{ready-of}
-use Rattle.act.specs.Did.{MayPost}
+use Rattle.access.specs.Nets.{IsNet}
+use Rattle.access.proofs.Laws.{is-net-of}
+use Rattle.action.specs.Ends.{MayPost}
 use Rattle.posts.specs.Oldest.{Oldest}
 
 module _ (N : Net) (H : Shaped N) (s d : ℕ) (O : Oldest N s d) where
@@ -25,13 +25,13 @@ module _ (N : Net) (H : Shaped N) (s d : ℕ) (O : Oldest N s d) where
   receiver = near-cable N H s d (O .between) .1
 
   pub grouped : (g : ℕ) → g ≡ oldest (N .channel) s d .group → g < N .groups
-  grouped g i = rw i (oldest-good N H s d (O .some) .grouped)
+  grouped g i = rw i (oldest-shaped N H s d (O .some) .grouped)
 
-  pub taken : (l : List ℕ) → l ≡ bytesOf (takeAt N s d 0) → (Ready l) × (view l ≡ takeAt N s d 0)
-  taken l = ready-of (takeAt N s d 0) l (take-shaped N H s d 0)
+  pub taken : (l : List ℕ) → l ≡ bytesOf (takeAt N s d 0) → (IsNet l) × (view l ≡ takeAt N s d 0)
+  taken l = is-net-of (takeAt N s d 0) l (take-shaped N H s d 0)
 
   -- the receiver of a request lists the sender, and may reply
-  pub may-reply : (g : ℕ) (e : Entry) → g ≡ oldest (N .channel) s d .group → e ≡ listing (N .entry g d) s → room? N d s ≡ true → MayPost (takeAt N s d 0) g d e s
+  pub may-reply : (g : ℕ) (e : Entry) → g ≡ oldest (N .channel) s d .group → e ≡ withChild (N .entry g d) s → room? N d s ≡ true → MayPost (takeAt N s d 0) g d e s
   unfolding takeAt setChannel
   may-reply g e i j t = record {
     group = grouped g i;

@@ -1,9 +1,9 @@
 // Actions 4 and 5, on a message that is on its way: deliver and lose.
-use act::Done;
-use act::answer::accepted;
-use act::answer::refused;
-use act::operands::of_cable;
-use act::operands::of_position;
+use action::Answer;
+use action::answers::accepted;
+use action::answers::refused;
+use action::operands::of_cable;
+use action::operands::of_position;
 use protocol::Message;
 ghost use mathlib.Core.Path.{_≡_};
 ghost use mathlib.Core.Bool.{true};
@@ -13,49 +13,49 @@ ghost use Rattle.net.specs.Encode.{bytesOf};
 ghost use Rattle.posts.specs.Oldest.{Oldest};
 ghost use Rattle.protocol.specs.Rules as rule;
 ghost use Rattle.net.specs.View.{view};
-ghost use Rattle.cells.specs.Ready.{Ready};
-ghost use Rattle.act.specs.Did.{Did};
+ghost use Rattle.access.specs.Nets.{IsNet};
+ghost use Rattle.action.specs.Ends.{ActionEnd};
 
 // A request is answered: the receiver lists the sender, and replies.
 fn answer(net: &mut [u8], s: u8, d: u8, g: u8)
-    requires { ⌜ Ready (now net) ⌝ }
+    requires { ⌜ IsNet (now net) ⌝ }
     requires { ⌜ Oldest (view (now net)) s d ⌝ }
     requires { ⌜ (g ≡ oldest (view (now net) .channel) s d .group) × (room? (view (now net)) d s ≡ true) ⌝ }
     ensures { λ _. ⌜ now (net .exit) ≡ bytesOf (answered (takeAt (view (now (net .entry))) s d 0) g s d) ⌝ }
 {
-    let root = cells::read::root_of(net, g);
-    let e = rules::listing(cells::read::entry_of(net, g, d), s);
-    cells::change::take_at(net, s, d, 0);
-    act::post::post(net, g, d, e, s, rules::reply(g, root, d, e));
+    let root = access::read::root_of(net, g);
+    let e = entries::with_child(access::read::entry_of(net, g, d), s);
+    access::change::take_at(net, s, d, 0);
+    action::post::post(net, g, d, e, s, entries::reply_of(g, root, d, e));
 }
 
 // A reply is heard: the receiver waits no longer, and may adopt the sender.
 fn hear(net: &mut [u8], s: u8, d: u8, m: Message)
-    requires { ⌜ Ready (now net) ⌝ }
+    requires { ⌜ IsNet (now net) ⌝ }
     requires { ⌜ Oldest (view (now net)) s d ⌝ }
     requires { ⌜ m ≡ oldest (view (now net) .channel) s d ⌝ }
     ensures { λ _. ⌜ now (net .exit) ≡ bytesOf (heard (takeAt (view (now (net .entry))) s d 0) s d m) ⌝ }
 {
     let g = m.group;
-    let e = rules::hearing(cells::read::entry_of(net, g, d), s, m);
-    cells::change::take_at(net, s, d, 0);
-    cells::change::put_entry(net, g, d, e);
+    let e = entries::hearing(access::read::entry_of(net, g, d), s, m);
+    access::change::take_at(net, s, d, 0);
+    access::change::set_entry(net, g, d, e);
 }
 
 // 4. Deliver: the oldest message from s to d.
-pub fn deliver(net: &mut [u8], s: u8, d: u8, c: u8) -> Done
-    requires { ⌜ Ready (now net) ⌝ }
-    ensures { λ r. ⌜ Did (rule.deliver (view (now (net .entry))) s d c) (now (net .entry)) r (now (net .exit)) ⌝ }
+pub fn deliver(net: &mut [u8], s: u8, d: u8, c: u8) -> Answer
+    requires { ⌜ IsNet (now net) ⌝ }
+    ensures { λ r. ⌜ ActionEnd (rule.deliver (view (now (net .entry))) s d c) (now (net .entry)) r (now (net .exit)) ⌝ }
 {
     if !of_cable(net, s, d, c) {
         return refused(3);
     }
-    if cells::read::waiting(net, s, d) == 0 {
+    if access::read::in_channel(net, s, d) == 0 {
         return refused(4);
     }
-    let m = cells::read::oldest(net, s, d);
+    let m = access::read::oldest(net, s, d);
     if m.kind == 1 {
-        if !cells::read::has_room(net, d, s) {
+        if !access::read::has_room(net, d, s) {
             return refused(6);
         }
         answer(net, s, d, m.group);
@@ -66,16 +66,16 @@ pub fn deliver(net: &mut [u8], s: u8, d: u8, c: u8) -> Done
 }
 
 // 5. Lose: the message at a position is removed.
-pub fn lose(net: &mut [u8], s: u8, d: u8, i: u8) -> Done
-    requires { ⌜ Ready (now net) ⌝ }
-    ensures { λ r. ⌜ Did (rule.lose (view (now (net .entry))) s d i) (now (net .entry)) r (now (net .exit)) ⌝ }
+pub fn lose(net: &mut [u8], s: u8, d: u8, i: u8) -> Answer
+    requires { ⌜ IsNet (now net) ⌝ }
+    ensures { λ r. ⌜ ActionEnd (rule.lose (view (now (net .entry))) s d i) (now (net .entry)) r (now (net .exit)) ⌝ }
 {
     if !of_position(net, s, d, i) {
         return refused(3);
     }
-    if i >= cells::read::waiting(net, s, d) {
+    if i >= access::read::in_channel(net, s, d) {
         return refused(4);
     }
-    cells::change::take_at(net, s, d, i);
+    access::change::take_at(net, s, d, i);
     accepted(0, 0, 1)
 }

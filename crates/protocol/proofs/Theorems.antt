@@ -21,34 +21,34 @@ use Rattle.protocol.specs.Entries.{bit, isOf, countOf, underway}
 use Rattle.protocol.specs.Steps.{rule, action?, outcome, step}
 use Rattle.protocol.specs.Runs.{countAccepted, countRefused, Ran, then, after}
 use Rattle.protocol.specs.Calls.{treeOf}
-use Rattle.protocol.specs.Shaped.{All, none, both, GoodPlan, GoodMessage, Shaped}
+use Rattle.protocol.specs.Shaped.{All, none, both, ShapedPlan, ShapedMessage, Shaped}
 use Rattle.protocol.specs.Sound.{Sound, SoundNet}
 use Rattle.protocol.specs.Demands.{Demand3, KeepsParents}
-use Rattle.protocol.proofs.Held.{HeldIn, sound-held, held-sound}
-use Rattle.protocol.proofs.Actions.{step-held}
-use Rattle.protocol.proofs.Shapes.{fresh-shaped}
-use Rattle.protocol.proofs.Keeps.{step-shaped}
-use Rattle.protocol.proofs.Steps.{orElse-pass, accepted, step-plan, refused-same}
-use Rattle.protocol.proofs.Messages.{isOf-group, no-replies}
-use Rattle.protocol.proofs.Kept.{step-keeps-parents}
+use Rattle.protocol.proofs.sound.Invariant.{InvariantIn, sound-invariant, invariant-sound}
+use Rattle.protocol.proofs.sound.Actions.{step-invariant}
+use Rattle.protocol.proofs.shape.Changes.{fresh-shaped}
+use Rattle.protocol.proofs.shape.Actions.{step-shaped}
+use Rattle.protocol.proofs.steps.Steps.{orElse-pass, accepted, step-plan, refused-same}
+use Rattle.protocol.proofs.laws.Messages.{isOf-group, no-replies}
+use Rattle.protocol.proofs.steps.Kept.{step-keeps-parents}
 use Rattle.protocol.proofs.Calls.{tree-rooted}
-use Rattle.protocol.proofs.Room as room
-use Rattle.protocol.proofs.Counts.{conserves}
+use Rattle.protocol.proofs.sound.Room as room
+use Rattle.protocol.proofs.steps.Counts.{conserves}
 
 -- well shaped and sound
-pub record Good (N : Net) : Type 0 where
+pub record ShapedSound (N : Net) : Type 0 where
   pub shaped : Shaped N
   pub sound : SoundNet N
 
 -- ---- a group past the last is blank, and has no message
-no-message : (k n g : ℕ) {l : List Message} → n ≤ g → All (GoodMessage n) l → countOf k g l ≡ 0
+no-message : (k n g : ℕ) {l : List Message} → n ≤ g → All (ShapedMessage n) l → countOf k g l ≡ 0
 unfolding countOf
 no-message k n g past none = refl
 no-message k n g past (both {x = m} a h) =
     let z : bit (isOf k g m) ≡ 0 = ap bit (isOf-group k g m (λ e. omega (arith, a .grouped))) in
     omega (arith, no-message k n g past h)
 
-no-group : (N : Net) → Shaped N → (g : ℕ) → N .groups ≤ g → HeldIn N g
+no-group : (N : Net) → Shaped N → (g : ℕ) → N .groups ≤ g → InvariantIn N g
 unfolding underway
 no-group N H g past = record {
   core = record {
@@ -67,13 +67,13 @@ no-group N H g past = record {
     bare : (p : ℕ) → N .entry g p ≡ blank
     bare p = H .noGroup g p past
 
-held : (N : Net) → Good N → (g : ℕ) → HeldIn N g
-held N G g = by-lt g (N .groups) (λ l. sound-held N (G .shaped) g (G .sound g l)) (no-group N (G .shaped) g)
+invariant : (N : Net) → ShapedSound N → (g : ℕ) → InvariantIn N g
+invariant N G g = by-lt g (N .groups) (λ l. sound-invariant N (G .shaped) g (G .sound g l)) (no-group N (G .shaped) g)
 
 -- ---- 1. "A fresh net is shaped and sound. Every step, accepted or refused, any numbers, keeps shaped and sound"
-fresh-held : (P : Plan) (g : ℕ) → HeldIn (fresh P) g
+fresh-invariant : (P : Plan) (g : ℕ) → InvariantIn (fresh P) g
 unfolding fresh underway countOf
-fresh-held P g = record {
+fresh-invariant P g = record {
   core = record {
     rootParent = λ p _. refl;
     calls = λ p q. omega arith;
@@ -87,22 +87,22 @@ fresh-held P g = record {
   ceiling = λ p. omega arith;
 }
 
-pub fresh-good : (P : Plan) → GoodPlan P → Good (fresh P)
-fresh-good P G = let H = fresh-shaped P G in record { shaped = H; sound = λ g _. held-sound (fresh P) H g (fresh-held P g) }
+pub fresh-shaped-sound : (P : Plan) → ShapedPlan P → ShapedSound (fresh P)
+fresh-shaped-sound P G = let H = fresh-shaped P G in record { shaped = H; sound = λ g _. invariant-sound (fresh P) H g (fresh-invariant P g) }
 
 pub step-sound : (N : Net) → Shaped N → (g : ℕ) → Sound N g → (k a b c : ℕ) → Sound (step N k a b c) g
-step-sound N H g S k a b c = held-sound (step N k a b c) (step-shaped N H k a b c) g (step-held N H (sound-held N H g S) k a b c)
+step-sound N H g S k a b c = invariant-sound (step N k a b c) (step-shaped N H k a b c) g (step-invariant N H (sound-invariant N H g S) k a b c)
 
-pub step-good : (N : Net) → Good N → (k a b c : ℕ) → Good (step N k a b c)
-step-good N G k a b c = record {
+pub step-shaped-sound : (N : Net) → ShapedSound N → (k a b c : ℕ) → ShapedSound (step N k a b c)
+step-shaped-sound N G k a b c = record {
   shaped = step-shaped N (G .shaped) k a b c;
   sound = λ g l. step-sound N (G .shaped) g (G .sound g (rw (ap (λ (P : Plan). P .groups) (step-plan N k a b c)) at l)) k a b c;
 }
 
 -- ---- 2. demand 3
-pub good-demand3 : (N : Net) → Good N → Demand3 N
+pub shaped-sound-demand3 : (N : Net) → ShapedSound N → Demand3 N
 unfolding underway treeOf
-good-demand3 N G = record {
+shaped-sound-demand3 N G = record {
   reaches = λ g p l n. let o : OnTree (treeOf N g) p = G .sound g l .chains p n in
       record { hops = o .hops; fewer = chain-short (treeOf N g) (tree-rooted N (G .shaped) g l) (o .chain); chain = o .chain };
   oneRequest = λ g s d l. omega (arith, G .sound g l .single s d);
@@ -115,10 +115,10 @@ module _ (N : Net) (s : List ℕ) where
   unfolding after then
   after-step i = refl
 
-  pub run-good : Good N → (i : ℕ) → Good (after N s i .net)
+  pub run-shaped-sound : ShapedSound N → (i : ℕ) → ShapedSound (after N s i .net)
   unfolding after
-  run-good G zero = G
-  run-good G (suc i) = rw (after-step i) (step-good _ (run-good G i) _ _ _ _)
+  run-shaped-sound G zero = G
+  run-shaped-sound G (suc i) = rw (after-step i) (step-shaped-sound _ (run-shaped-sound G i) _ _ _ _)
 
   pub run-shaped : Shaped N → (i : ℕ) → Shaped (after N s i .net)
   unfolding after
@@ -129,15 +129,15 @@ module _ (N : Net) (s : List ℕ) where
   run-keeps-parents H i = rw (after-step i) (step-keeps-parents _ (run-shaped H i) _ _ _ _)
 
 -- "From a fresh net, after any steps in any order (losses, refusals, route and membership changes)"
-pub fresh-demand3 : (P : Plan) → GoodPlan P → (s : List ℕ) (i : ℕ) → Demand3 (after (fresh P) s i .net)
-fresh-demand3 P G s i = good-demand3 _ (run-good (fresh P) s (fresh-good P G) i)
+pub fresh-demand3 : (P : Plan) → ShapedPlan P → (s : List ℕ) (i : ℕ) → Demand3 (after (fresh P) s i .net)
+fresh-demand3 P G s i = shaped-sound-demand3 _ (run-shaped-sound (fresh P) s (fresh-shaped-sound P G) i)
 
-pub fresh-keeps-parents : (P : Plan) → GoodPlan P → (s : List ℕ) (i : ℕ) → KeepsParents (after (fresh P) s i .net) (after (fresh P) s (suc i) .net)
+pub fresh-keeps-parents : (P : Plan) → ShapedPlan P → (s : List ℕ) (i : ℕ) → KeepsParents (after (fresh P) s i .net) (after (fresh P) s (suc i) .net)
 fresh-keeps-parents P G s = run-keeps-parents (fresh P) s (fresh-shaped P G)
 
 -- ---- 3. "Outcome 6 never occurs from a sound net"
-pub never-six : (N : Net) → Good N → (k a b c : ℕ) → outcome N k a b c ≢ 6
-never-six N G = room.never-six N (G .shaped) (held N G)
+pub never-six : (N : Net) → ShapedSound N → (k a b c : ℕ) → outcome N k a b c ≢ 6
+never-six N G = room.never-six N (G .shaped) (invariant N G)
 
 -- "Messages waiting at the start plus sent equal delivered plus lost plus waiting at the end, for a step and for a run"
 pub step-conserves : (N : Net) → Shaped N → (k a b c : ℕ) → outcome N k a b c ≡ 0

@@ -41,19 +41,19 @@ ticked e = withClock e (e .clock + 1)
 abbrev pub waitsOn : Entry → ℕ → Entry
 waitsOn e q = withWaiting e (with (e .waiting) q)
 
-abbrev pub unwaiting : Entry → ℕ → Entry
-unwaiting e q = withWaiting e (without (e .waiting) q)
+abbrev pub stopsWaiting : Entry → ℕ → Entry
+stopsWaiting e q = withWaiting e (without (e .waiting) q)
 
 -- it asks q: q becomes tentative parent, and it waits on q
 abbrev pub asking : Entry → ℕ → Entry
 asking e q = withParents (waitsOn e q) (e .parent) q
 
 -- s is added to its children, and x is removed
-abbrev pub listing : Entry → ℕ → Entry
-listing e s = withChildren e (with (e .children) s)
+abbrev pub withChild : Entry → ℕ → Entry
+withChild e s = withChildren e (with (e .children) s)
 
-abbrev pub unlisting : Entry → ℕ → Entry
-unlisting e x = withChildren e (without (e .children) x)
+abbrev pub withoutChild : Entry → ℕ → Entry
+withoutChild e x = withChildren e (without (e .children) x)
 
 -- "To leave is to set both parents to nil. The clock and waiting stay"
 abbrev pub leave : Entry → Entry
@@ -87,7 +87,7 @@ adopting e s m = withClock (withParents e s (e .tentative)) (m .clock)
 
 -- the reply m from s is heard: the station "stops waiting on the sender", and adopts it if the reply is taken
 unfoldable pub hearing : Entry → ℕ → Message → Entry
-hearing e s m = cond (adopts e s m) (adopting (unwaiting e s) s m) (unwaiting e s)
+hearing e s m = cond (adopts e s m) (adopting (stopsWaiting e s) s m) (stopsWaiting e s)
 
 -- ---- how many messages of a kind and a group are in a list
 unfoldable pub isOf : ℕ → ℕ → Message → Bool

@@ -2,7 +2,7 @@
 use mathlib.Core.List.{List, []}
 use Prim.Native.Nat.{ℕ}
 use Rattle.protocol.specs.declared.Entry.{Entry}
-use Rattle.protocol.specs.Net.{Net, nil}
+use Rattle.protocol.specs.Net.{NetOf, Net, nil}
 
 -- what a net never changes: its stations, groups and cables
 pub record Plan : Type 0 where
@@ -31,5 +31,5 @@ fresh P = record {
 }
 
 -- the plan that a net keeps
-abbrev pub planOf : Net → Plan
+abbrev pub planOf : {E M : Type 0} → NetOf E M → Plan
 planOf N = record { stations = N .stations; groups = N .groups; name = N .name; root = N .root; neighbours = N .neighbours }

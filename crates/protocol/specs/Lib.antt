@@ -11,4 +11,6 @@ pub mod Shaped
 pub mod Sound
 pub mod Apart
 pub mod Demands
+pub mod ExampleNets
+pub mod ExampleRows
 pub mod Examples

@@ -27,7 +27,7 @@ longestName = 16
 abbrev pub largestClock : ℕ
 largestClock = 4294967295
 
--- how many messages a channel holds at most
+-- how many messages a channel of version 1 holds at most
 abbrev pub capacity : ℕ
 capacity = 8
 
@@ -124,6 +124,10 @@ module _ {E M : Type 0} (N : NetOf E M) where
   -- two stations that are neighbours
   unfoldable pub near? : ℕ → ℕ → Bool
   near? p q = station? p && station? q && has (N .neighbours p) q
+
+  -- room for one message more from s to d, in channels of this capacity
+  abbrev pub roomIn : (capacity s d : ℕ) → Bool
+  roomIn capacity s d = ltb (length (N .channel s d)) capacity
 
   -- how many messages are in the channels, all together
   unfoldable pub inChannels : ℕ

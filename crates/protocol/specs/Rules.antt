@@ -6,8 +6,8 @@ use lib.Dec.{eqb, ltb}
 use lib.ListN.{length, getD}
 use Rattle.bits.specs.Masks.{has}
 use Rattle.protocol.specs.declared.Message.{Message}
-use Rattle.protocol.specs.Net.{Net, nil, largestClock, capacity, request, setEntry, setRoute, send, takeAt, group?, station?, near?}
-use Rattle.protocol.specs.Entries.{joins, ticked, waitsOn, unwaiting, asking, listing, unlisting, stayOrLeave, withMember, requestOf, replyOf, hearing, bit, underway}
+use Rattle.protocol.specs.Net.{NetOf, Net, nil, largestClock, capacity, roomIn, request, setEntry, setRoute, send, takeAt, group?, station?, near?}
+use Rattle.protocol.specs.Entries.{joins, ticked, waitsOn, stopsWaiting, asking, withChild, withoutChild, stayOrLeave, withMember, requestOf, replyOf, hearing, bit, underway}
 
 -- the messages that a step sends, delivers and loses
 pub record Traffic : Type 0 where
@@ -48,7 +48,7 @@ unused? c = eqb c 0
 
 -- room for one message more from s to d
 unfoldable pub room? : Net → ℕ → ℕ → Bool
-room? N s d = ltb (length (N .channel s d)) capacity
+room? N s d = roomIn N capacity s d
 
 -- 1. "Tick (group). The root's clock grows by one."
 unfoldable pub tick : Net → ℕ → ℕ → ℕ → Rule Net
@@ -97,7 +97,7 @@ refresh N g p c =
 -- "A request: the receiver adds the sender to its children and replies with its connected flag and clock."
 unfoldable pub answered : Net → ℕ → ℕ → ℕ → Net
 answered N g s d =
-    let e = listing (N .entry g d) s in
+    let e = withChild (N .entry g d) s in
     send (setEntry N g d e) d s (replyOf g (N .root g) d e)
 
 -- "A reply: the receiver stops waiting on the sender", and may adopt it
@@ -118,9 +118,9 @@ deliver N s d c =
       next = cond asked (answered (takeAt N s d 0) (m .group) s d) (heard (takeAt N s d 0) s d m);
     }
 
--- 5. "Lose (from, to, position 0 to 7). That message is removed."
-unfoldable pub lose : Net → ℕ → ℕ → ℕ → Rule Net
-lose N s d i = record {
+-- 5. "Lose (from, to, position 0 to 7). That message is removed." In channels of any capacity, and in those of version 1
+abbrev pub loseIn : {E M : Type 0} → NetOf E M → (capacity s d i : ℕ) → Rule (NetOf E M)
+loseIn N capacity s d i = record {
   operands = near? N s d && ltb i capacity;
   enabled = ltb i (length (N .channel s d));
   clockRoom = true;
@@ -128,6 +128,9 @@ lose N s d i = record {
   traffic = oneLost;
   next = takeAt N s d i;
 }
+
+unfoldable pub lose : Net → ℕ → ℕ → ℕ → Rule Net
+lose N s d i = loseIn N capacity s d i
 
 -- 6. "Give up (group, station, neighbour). Enabled if it waits on the neighbour and neither its request nor the reply is in
 -- the channels. It stops waiting."
@@ -140,7 +143,7 @@ giveUp N g p q =
       clockRoom = true;
       sendRoom = true;
       traffic = noTraffic;
-      next = setEntry N g p (unwaiting e q);
+      next = setEntry N g p (stopsWaiting e q);
     }
 
 -- 7. "Drop child (group, station, child). Enabled if it is a child whose parent is not this station, with no request from it
@@ -154,7 +157,7 @@ dropChild N g p x =
       clockRoom = true;
       sendRoom = true;
       traffic = noTraffic;
-      next = setEntry N g p (stayOrLeave (N .root g) p (unlisting e x));
+      next = setEntry N g p (stayOrLeave (N .root g) p (withoutChild e x));
     }
 
 -- 8. "Member (group, station, 0 or 1). Sets the flag; then the station leaves if it no longer joins."

@@ -41,9 +41,12 @@ unfoldable pub after : Net → List ℕ → ℕ → Ran
 after N s zero = record { net = N; tally = noTally }
 after N s (suc i) = then (after N s i) (getD s (4 * i) 0) (getD s (4 * i + 1) 0) (getD s (4 * i + 2) 0) (getD s (4 * i + 3) 0)
 
+abbrev pub longestScript : ℕ
+longestScript = 16384
+
 -- 11: "script length is not a multiple of 4"; 12: "script longer than 16,384 bytes"
 unfoldable pub lengthOutcome : ℕ → ℕ
-lengthOutcome n = orElse (eqb (n % 4) 0) 11 (orElse (leb n 16384) 12 0)
+lengthOutcome n = orElse (eqb (n % 4) 0) 11 (orElse (leb n longestScript) 12 0)
 
 unfoldable pub scriptOutcome : List ℕ → ℕ
 scriptOutcome s = lengthOutcome (length s)

@@ -1,4 +1,23 @@
-// The records that the rules speak of: what a station knows of one group, a message, and the counts of a run.
+// The numbers of document 01 that the code names, as in specs/Net.antt; and the records that the rules speak of: what a station knows
+// of one group, a message, and the counts of a run.
+pub const NIL: u8 = 255;
+
+pub const MOST_STATIONS: usize = 16;
+
+pub const MOST_GROUPS: usize = 4;
+
+pub const LONGEST_NAME: usize = 16;
+
+pub const LARGEST_CLOCK: u32 = 4294967295;
+
+pub const CAPACITY: u8 = 8;
+
+pub const REQUEST: u8 = 1;
+
+pub const REPLY: u8 = 2;
+
+pub const LONGEST_SCRIPT: usize = 16384;
+
 pub struct Entry {
     pub parent: u8,
     pub tentative: u8,

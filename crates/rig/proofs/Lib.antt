@@ -1,3 +1,2 @@
 -- The laws of the C face.
 pub mod Words
-pub mod Runs

@@ -1,2 +1,2 @@
--- The C face: what its numbers and buffers hold.
+-- The C face: what its numbers hold.
 pub mod Face

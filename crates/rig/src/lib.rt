@@ -1,50 +1,37 @@
 // The C face: every function of the model but the bench program, through numbers and byte buffers (rig/kepalumbi.h).
 ghost use mathlib.Core.Path.{_≡_};
-ghost use lib.Dec.{eqb};
-ghost use lib.ListN.{length};
-ghost use Rattle.walk.specs.Walks.{listLength};
-ghost use Rattle.fresh.specs.Fresh.{freshOutcome, freshLeaves};
-ghost use Rattle.step.specs.Stepped.{stepOutcome, stepLeaves};
+ghost use Rattle.visit.specs.Lists.{listFits};
+ghost use Rattle.fresh.specs.Fresh.{freshOutcome, netAfterFresh};
+ghost use Rattle.step.specs.Steps.{stepOutcome, netAfterStep};
+ghost use Rattle.run.specs.Tallies.{tallyFits};
+ghost use Rattle.run.specs.Runs.{runOutcome, netAfterRun, tallyAfterRun};
 ghost use Rattle.find.specs.Answers.{foundIn};
-ghost use Rattle.call.specs.Answers.{calledIn, listLeaves};
-ghost use Rattle.shape.specs.Shape.{shaped};
-ghost use Rattle.protocol.specs.Steps.{orElse};
-ghost use Rattle.rig.specs.Face.{KepRan, foundWord, calledWord};
+ghost use Rattle.call.specs.Answers.{calledIn, listAfterCall};
+ghost use Rattle.rig.specs.Face.{foundWord, calledWord};
 
 #[no_mangle]
 pub extern "C" fn kep_fresh(plan: &[u8], net: &mut [u8]) -> u32
-    ensures { λ r. ⌜ (r ≡ freshOutcome (now (plan .entry)) (now (net .entry))) × (now (net .exit) ≡ freshLeaves (now (plan .entry)) (now (net .entry))) ⌝ }
+    ensures { λ r. ⌜ (r ≡ freshOutcome (now (plan .entry)) (now (net .entry)))
+        × (now (net .exit) ≡ netAfterFresh (now (plan .entry)) (now (net .entry))) ⌝ }
 {
     fresh::fresh(plan, net) as u32
 }
 
 #[no_mangle]
 pub extern "C" fn kep_step(net: &mut [u8], action: u8, a: u8, b: u8, c: u8) -> u32
-    ensures { λ r. ⌜ (r ≡ stepOutcome (now (net .entry)) action a b c) × (now (net .exit) ≡ stepLeaves (now (net .entry)) action a b c) ⌝ }
+    ensures { λ r. ⌜ (r ≡ stepOutcome (now (net .entry)) action a b c)
+        × (now (net .exit) ≡ netAfterStep (now (net .entry)) action a b c) ⌝ }
 {
     step::step(net, action, a, b, c) as u32
 }
 
-// The refusal of a tally of another size: the net is tested before it.
-fn refused_size(net: &[u8]) -> u32
-    ensures { λ r. ⌜ r ≡ orElse (shaped (now (net .entry))) 1 10 ⌝ }
-{
-    if shape::whole::is_net(net) { 10 } else { 1 }
-}
-
 #[no_mangle]
 pub extern "C" fn kep_run(net: &mut [u8], script: &[u8], tally: &mut [u8]) -> u32
-    ensures { λ r. ⌜ KepRan (now (net .entry)) (now (script .entry)) (now (tally .entry)) r (now (net .exit)) (now (tally .exit)) ⌝ }
+    ensures { λ r. ⌜ (r ≡ runOutcome (now (net .entry)) (now (script .entry)) (tallyFits (now (tally .entry))))
+        × (now (net .exit) ≡ netAfterRun (now (net .entry)) (now (script .entry)) (tallyFits (now (tally .entry))))
+        × (now (tally .exit) ≡ tallyAfterRun (now (net .entry)) (now (script .entry)) (now (tally .entry))) ⌝ }
 {
-    if tally.len() != 20 {
-        return refused_size(net);
-    }
-    let ran = run::run(net, script);
-    if ran.outcome != 0 {
-        return ran.outcome as u32;
-    }
-    run::tally::put(tally, ran.tally);
-    0
+    run::run_into(net, script, tally) as u32
 }
 
 #[no_mangle]
@@ -60,7 +47,8 @@ pub extern "C" fn kep_find(net: &[u8], name: &[u8]) -> u32
 
 #[no_mangle]
 pub extern "C" fn kep_call(net: &[u8], group: u8, station: u8, list: &mut [u8]) -> u32
-    ensures { λ r. ⌜ (r ≡ calledWord (calledIn (now (net .entry)) group station (eqb (length (now (list .entry))) listLength))) × (now (list .exit) ≡ listLeaves (now (net .entry)) group station (now (list .entry))) ⌝ }
+    ensures { λ r. ⌜ (r ≡ calledWord (calledIn (now (net .entry)) group station (listFits (now (list .entry)))))
+        × (now (list .exit) ≡ listAfterCall (now (net .entry)) group station (now (list .entry))) ⌝ }
 {
     let called = call::call(net, group, station, list);
     match called {

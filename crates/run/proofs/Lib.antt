@@ -1,5 +1,5 @@
 pub mod Tallies
 pub mod Lengths
-pub mod Few
+pub mod CountsUpTo
 pub mod Turns
 pub mod Theorems

@@ -14,32 +14,42 @@ use Rattle.protocol.specs.Shaped.{Shaped}
 use Rattle.protocol.proofs.Theorems.{run-shaped}
 use Rattle.net.specs.View.{view}
 use Rattle.net.specs.Encode.{bytesOf}
-use Rattle.cells.specs.Ready.{Ready}
-use Rattle.cells.proofs.Cells.{ready-of}
-use Rattle.act.specs.declared.Done.{Done}
-use Rattle.step.specs.Stepped.{stepDone, Stepped}
-use Rattle.run.specs.Counts.{counted}
+use Rattle.access.specs.inner.Nets.{IsNet}
+use Rattle.access.proofs.Laws.{is-net-of}
+use Rattle.action.specs.declared.Answer.{Answer}
+use Rattle.step.specs.Steps.{stepAnswer, StepEnd}
+use Rattle.run.specs.inner.Counts.{counted}
 
 -- what a step did is counted as the book counts it
-counts-step : (R : Ran) (k a b c : ℕ) → counted (R .tally) (stepDone (R .net) k a b c) ≡ then R k a b c .tally
-unfolding counted stepDone then
+counts-step : (R : Ran) (k a b c : ℕ) → counted (R .tally) (stepAnswer (R .net) k a b c) ≡ then R k a b c .tally
+unfolding counted stepAnswer then
 counts-step R k a b c = by-bool (eqb (outcome (R .net) k a b c) 0) (λ t. rw t refl) (λ f. rw (f, f) refl)
 
 module _ (N : Net) (H : Shaped N) (s : List ℕ) where
+  -- step i of the script: its action and its operands
+  abbrev pub k : ℕ → ℕ
+  k i = getD s (4 * i) 0
+
+  abbrev pub a : ℕ → ℕ
+  a i = getD s (4 * i + 1) 0
+
+  abbrev pub b : ℕ → ℕ
+  b i = getD s (4 * i + 2) 0
+
+  abbrev pub c : ℕ → ℕ
+  c i = getD s (4 * i + 3) 0
+
   -- bytes that are those of the net after i steps
-  pub after-ready : (i : ℕ) (l : List ℕ) → l ≡ bytesOf (after N s i .net) → (Ready l) × (view l ≡ after N s i .net)
-  after-ready i l e = ready-of (after N s i .net) l (run-shaped N s H i) e
+  pub after-is-net : (i : ℕ) (l : List ℕ) → l ≡ bytesOf (after N s i .net) → (IsNet l) × (view l ≡ after N s i .net)
+  after-is-net i l e = is-net-of (after N s i .net) l (run-shaped N s H i) e
 
-  pub turn-net : (i : ℕ) (l l' : List ℕ) (d : Done) → l ≡ bytesOf (after N s i .net)
-      → Stepped l (getD s (4 * i) 0) (getD s (4 * i + 1) 0) (getD s (4 * i + 2) 0) (getD s (4 * i + 3) 0) d l' → l' ≡ bytesOf (after N s (i + 1) .net)
-  unfolding after then
-  turn-net i l l' d e w =
-      rw add-one (w .bytes ∙ ap (λ (M : Net). bytesOf (step M (getD s (4 * i) 0) (getD s (4 * i + 1) 0) (getD s (4 * i + 2) 0) (getD s (4 * i + 3) 0))) (after-ready i l e .1))
+  module _ (i : ℕ) (l l' : List ℕ) (d : Answer) (e : l ≡ bytesOf (after N s i .net)) (w : StepEnd l (k i) (a i) (b i) (c i) d l') where
+    pub turn-net : l' ≡ bytesOf (after N s (i + 1) .net)
+    unfolding after then
+    turn-net = rw add-one (w .bytes ∙ ap (λ (M : Net). bytesOf (step M (k i) (a i) (b i) (c i))) (after-is-net i l e .1))
 
-  pub turn-tally : (i : ℕ) (l l' : List ℕ) (d : Done) (t t' : Tally) → l ≡ bytesOf (after N s i .net) → t ≡ after N s i .tally
-      → Stepped l (getD s (4 * i) 0) (getD s (4 * i + 1) 0) (getD s (4 * i + 2) 0) (getD s (4 * i + 3) 0) d l' → t' ≡ counted t d → t' ≡ after N s (i + 1) .tally
-  unfolding after
-  turn-tally i l l' d t t' e f w c =
-      rw add-one
-      (c ∙ (λ j. counted (f j) ((w .answer ∙ ap (λ (M : Net). stepDone M (getD s (4 * i) 0) (getD s (4 * i + 1) 0) (getD s (4 * i + 2) 0) (getD s (4 * i + 3) 0)) (after-ready i l e .1)) j))
-      ∙ counts-step (after N s i) _ _ _ _)
+    pub turn-tally : (t t' : Tally) → t ≡ after N s i .tally → t' ≡ counted t d → t' ≡ after N s (i + 1) .tally
+    unfolding after
+    turn-tally t t' was is =
+        let did = w .answer ∙ ap (λ (M : Net). stepAnswer M (k i) (a i) (b i) (c i)) (after-is-net i l e .1) in
+        rw add-one (is ∙ (λ j. counted (was j) (did j)) ∙ counts-step (after N s i) _ _ _ _)

@@ -1,4 +1,4 @@
 -- A run over bytes.
-pub mod Counts
-pub mod Runs
+pub mod inner
 pub mod Tallies
+pub mod Runs

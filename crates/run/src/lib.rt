@@ -1,26 +1,28 @@
 // A run: the steps of a script in turn, and their tally.
 pub mod tally;
 
-use act::Done;
+use protocol::LONGEST_SCRIPT;
 use protocol::Tally;
 ghost use mathlib.Core.Path.{_≡_};
+ghost use mathlib.Core.Bool.{true};
 ghost use Prim.Native.Nat.{_/_, _≤_};
 ghost use lib.ListN.{length};
-ghost use Rattle.protocol.specs.Runs.{noTally, lengthOutcome, after};
+ghost use Rattle.protocol.specs.Runs.{noTally, longestScript, lengthOutcome, after};
 ghost use Rattle.net.specs.View.{view};
 ghost use Rattle.net.specs.Encode.{bytesOf};
-ghost use Rattle.cells.specs.Ready.{Ready};
-ghost use Rattle.run.specs.Counts.{counted, Few};
-ghost use Rattle.run.specs.Runs.{ranOver, runLeaves};
+ghost use Rattle.access.specs.inner.Nets.{IsNet};
+ghost use Rattle.run.specs.inner.Counts.{counted, CountsUpTo};
+ghost use Rattle.run.specs.Tallies.{tallyFits};
+ghost use Rattle.run.specs.Runs.{runOutcome, netAfterRun, runAnswer, tallyAfterRun};
 
-// What a run answers: its outcome number, and its counts.
-pub struct Ran {
+// What a run answers: its outcome number, and its counts, which are zero beside a refusal.
+pub struct Answer {
     pub outcome: u8,
     pub tally: Tally,
 }
 
 // No step yet.
-pub fn none() -> Tally
+fn no_tally() -> Tally
     ensures { λ r. ⌜ r ≡ noTally ⌝ }
 {
     Tally {
@@ -33,8 +35,8 @@ pub fn none() -> Tally
 }
 
 // One step more.
-fn count(mut t: Tally, d: Done) -> Tally
-    requires { ⌜ Few 4095 t ⌝ }
+fn counted(mut t: Tally, d: action::Answer) -> Tally
+    requires { ⌜ CountsUpTo 4095 t ⌝ }
     ensures { λ r. ⌜ r ≡ counted t d ⌝ }
 {
     if d.outcome == 0 {
@@ -49,13 +51,13 @@ fn count(mut t: Tally, d: Done) -> Tally
 }
 
 // What a script of n bytes is refused with, or 0.
-pub fn script_outcome(n: usize) -> u8
+pub fn length_outcome(n: usize) -> u8
     ensures { λ r. ⌜ r ≡ lengthOutcome n ⌝ }
 {
     if n % 4 != 0 {
         return 11;
     }
-    if n > 16384 {
+    if n > LONGEST_SCRIPT {
         return 12;
     }
     0
@@ -63,13 +65,13 @@ pub fn script_outcome(n: usize) -> u8
 
 // Every step of the script, on bytes that are a net's: the shape is tested by the caller, once.
 fn run_in(net: &mut [u8], script: &[u8]) -> Tally
-    requires { ⌜ Ready (now net) ⌝ }
-    requires { ⌜ length (now script) ≤ 16384 ⌝ }
+    requires { ⌜ IsNet (now net) ⌝ }
+    requires { ⌜ length (now script) ≤ longestScript ⌝ }
     ensures { λ r. ⌜ (r ≡ after (view (now (net .entry))) (now (script .entry)) (length (now (script .entry)) / 4) .tally)
         × (now (net .exit) ≡ bytesOf (after (view (now (net .entry))) (now (script .entry)) (length (now (script .entry)) / 4) .net)) ⌝ }
 {
     let n = script.len() / 4;
-    let mut tally = none();
+    let mut tally = no_tally();
     let mut i = 0;
     while i < n {
         let d = step::step_in(
@@ -79,38 +81,60 @@ fn run_in(net: &mut [u8], script: &[u8]) -> Tally
             script[4 * i + 2],
             script[4 * i + 3],
         );
-        tally = count(tally, d);
+        tally = counted(tally, d);
         i += 1;
     }
     tally
 }
 
-// A run of any script on any bytes. Its tally is that of the steps, and `old` where the run is refused.
-pub fn run_over(net: &mut [u8], script: &[u8], old: Tally) -> Ran
-    ensures { λ r. ⌜ (r ≡ ranOver (now (net .entry)) (now (script .entry)) old) × (now (net .exit) ≡ runLeaves (now (net .entry)) (now (script .entry))) ⌝ }
+// The outcome number of a run; `fits` is whether the lent tally is of its size.
+fn run_outcome(net: &[u8], script: &[u8], fits: bool) -> u8
+    ensures { λ r. ⌜ r ≡ runOutcome (now (net .entry)) (now (script .entry)) fits ⌝ }
 {
-    if !shape::whole::is_net(net) {
-        return Ran {
-            outcome: 1,
-            tally: old,
+    if !shape::whole::shaped(net) {
+        return 1;
+    }
+    if !fits {
+        return 10;
+    }
+    length_outcome(script.len())
+}
+
+// What a run by value and one into a lent tally have in common.
+fn run_fitting(net: &mut [u8], script: &[u8], fits: bool) -> Answer
+    ensures { λ r. ⌜ (r ≡ runAnswer (now (net .entry)) (now (script .entry)) fits)
+        × (now (net .exit) ≡ netAfterRun (now (net .entry)) (now (script .entry)) fits) ⌝ }
+{
+    let outcome = run_outcome(net, script, fits);
+    if outcome != 0 {
+        return Answer {
+            outcome,
+            tally: no_tally(),
         };
     }
-    let k = script_outcome(script.len());
-    if k != 0 {
-        return Ran {
-            outcome: k,
-            tally: old,
-        };
-    }
-    Ran {
+    Answer {
         outcome: 0,
         tally: run_in(net, script),
     }
 }
 
-// The same, with zeros beside a refusal.
-pub fn run(net: &mut [u8], script: &[u8]) -> Ran
-    ensures { λ r. ⌜ (r ≡ ranOver (now (net .entry)) (now (script .entry)) noTally) × (now (net .exit) ≡ runLeaves (now (net .entry)) (now (script .entry))) ⌝ }
+// A run of any script on any bytes: its answer.
+pub fn run(net: &mut [u8], script: &[u8]) -> Answer
+    ensures { λ r. ⌜ (r ≡ runAnswer (now (net .entry)) (now (script .entry)) true)
+        × (now (net .exit) ≡ netAfterRun (now (net .entry)) (now (script .entry)) true) ⌝ }
 {
-    run_over(net, script, none())
+    run_fitting(net, script, true)
+}
+
+// A run of any script on any bytes, into any tally of bytes: its outcome number.
+pub fn run_into(net: &mut [u8], script: &[u8], tally: &mut [u8]) -> u8
+    ensures { λ r. ⌜ (r ≡ runOutcome (now (net .entry)) (now (script .entry)) (tallyFits (now (tally .entry))))
+        × (now (net .exit) ≡ netAfterRun (now (net .entry)) (now (script .entry)) (tallyFits (now (tally .entry))))
+        × (now (tally .exit) ≡ tallyAfterRun (now (net .entry)) (now (script .entry)) (now (tally .entry))) ⌝ }
+{
+    let answer = run_fitting(net, script, tally.len() == tally::TALLY_LENGTH);
+    if answer.outcome == 0 {
+        tally::put(tally, answer.tally);
+    }
+    answer.outcome
 }

@@ -5,6 +5,8 @@ ghost use mathlib.Core.Path.{_≡_};
 ghost use lib.ListN.{length};
 ghost use Rattle.run.specs.Tallies.{tallyLength, tallyBytes};
 
+pub const TALLY_LENGTH: usize = 20;
+
 // The five counts, in document 01's order.
 pub fn put(out: &mut [u8], t: Tally)
     requires { ⌜ length (now out) ≡ tallyLength ⌝ }

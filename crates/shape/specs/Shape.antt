@@ -7,65 +7,69 @@ use lib.ListN.{length}
 use Rattle.bits.specs.Masks.{has, within}
 use Rattle.bits.specs.Parts.{numberAt}
 use Rattle.protocol.specs.Net.{nil, mostStations, mostGroups, capacity, request, reply}
-use Rattle.channel.specs.Messages.{messageSize, channelSize}
-use Rattle.layout.specs.Layout.{byte, netLength, stations, groups, root, neighbours, route, entrySize, stretchSize, stretchAt, entryAt, channelRow, channelAt, messageAt}
+use Rattle.layout.specs.Layout.{byte, netLength, stations, groups, root, neighbours, routesAt, routeAt, entriesAt, entrySize, stretchSize, stretchAt, entryAt, channelsAt, channelRow, channelSize, channelAt, messageSize, messageAt}
 use Rattle.layout.specs.Bounded.{allBytes, _implies_, zeros, table}
-use Rattle.plan.specs.Planned.{between, planned}
+use Rattle.plan.specs.Planned.{between, ofVersion1, planned}
 
 -- nil, or one of the neighbours m
 unfoldable pub nilOr : ℕ → ℕ → Bool
 nilOr m r = eqb r nil || has m r
 
--- "a route is nil or a neighbour of its station, and nil to itself"
-unfoldable pub routed : List ℕ → ℕ → ℕ → Bool
-routed l p d = nilOr (neighbours l p) (route l p d) && (eqb p d implies eqb (route l p d) nil)
+-- ---- one thing whose bytes begin at `at`: nb are the neighbours of its station
+-- "a route is nil or a neighbour of its station, and nil to itself": from p towards d
+unfoldable pub routeShaped : (nb p d : ℕ) → List ℕ → ℕ → Bool
+routeShaped nb p d l at = nilOr nb (byte l at) && (eqb p d implies eqb (byte l at) nil)
 
--- "parent and tentative parent are nil or neighbours, both nil at the root"
-unfoldable pub upright : List ℕ → ℕ → ℕ → Bool
-upright l g p =
-    nilOr (neighbours l p) (byte l (entryAt g p)) && nilOr (neighbours l p) (byte l (entryAt g p + 1))
-    && (eqb (root l g) p implies (eqb (byte l (entryAt g p)) nil && eqb (byte l (entryAt g p + 1)) nil))
+-- "parent and tentative parent are nil or neighbours, both nil at the root": of station p, where r is the root
+unfoldable pub entryUpright : (nb r p : ℕ) → List ℕ → ℕ → Bool
+entryUpright nb r p l at =
+    nilOr nb (byte l at) && nilOr nb (byte l (at + 1)) && (eqb r p implies (eqb (byte l at) nil && eqb (byte l (at + 1)) nil))
 
 -- "member is 0 or 1; children and waiting lie within the neighbours"; the fourth byte is zero
-unfoldable pub attached : List ℕ → ℕ → ℕ → Bool
-attached l g p =
-    leb (byte l (entryAt g p + 2)) 1 && eqb (byte l (entryAt g p + 3)) 0
-    && within mostStations (numberAt 2 l (entryAt g p + 8)) (neighbours l p)
-    && within mostStations (numberAt 2 l (entryAt g p + 10)) (neighbours l p)
+unfoldable pub entryAttached : (nb : ℕ) → List ℕ → ℕ → Bool
+entryAttached nb l at =
+    leb (byte l (at + 2)) 1 && eqb (byte l (at + 3)) 0 && within mostStations (numberAt 2 l (at + 8)) nb && within mostStations (numberAt 2 l (at + 10)) nb
 
-unfoldable pub entered : List ℕ → ℕ → ℕ → Bool
-entered l g p = upright l g p && attached l g p
+unfoldable pub entryShaped : (nb r p : ℕ) → List ℕ → ℕ → Bool
+entryShaped nb r p l at = entryUpright nb r p l at && entryAttached nb l at
 
 -- "kind is 1 (request) or 2 (reply), group below g, connected 0 or 1, and both connected and clock zero in a request"
-unfoldable pub messaged : List ℕ → ℕ → ℕ → Bool
-messaged l n at =
-    between request reply (byte l at) && ltb (byte l (at + 1)) n && leb (byte l (at + 2)) 1
+unfoldable pub messageShaped : (g : ℕ) → List ℕ → ℕ → Bool
+messageShaped g l at =
+    between request reply (byte l at) && ltb (byte l (at + 1)) g && leb (byte l (at + 2)) 1
     && (eqb (byte l at) request implies zeros l (at + 2) (at + messageSize))
 
--- "a channel holds at most 8, and none unless its ends are neighbours"
-unfoldable pub counted : List ℕ → ℕ → ℕ → Bool
-counted l s d = leb (byte l (channelAt s d)) capacity && (eqb (byte l (channelAt s d)) 0 || has (neighbours l s) d)
+-- "a channel holds at most 8, and none unless its ends are neighbours": to station d
+unfoldable pub countShaped : (nb d : ℕ) → List ℕ → ℕ → Bool
+countShaped nb d l at = leb (byte l at) capacity && (eqb (byte l at) 0 || has nb d)
 
-unfoldable pub queued : List ℕ → ℕ → ℕ → ℕ → Bool
-queued l n s d =
-    counted l s d
-    && table l (channelAt s d + 1) messageSize capacity (byte l (channelAt s d)) (λ i. messaged l n (messageAt (channelAt s d) i))
+unfoldable pub channelShaped : (nb g d : ℕ) → List ℕ → ℕ → Bool
+channelShaped nb g d l at = countShaped nb d l at && table l (at + 1) messageSize capacity (byte l at) (λ i. messageShaped g l (messageAt at i))
 
--- ---- the three tables of a net, row by row: "every byte of an unused .. station, route (either end not below n), channel or
--- message is zero, its nil places included"
-unfoldable pub routesShaped : List ℕ → ℕ → Bool
-routesShaped l n = table l 112 mostStations mostStations n (λ p. table l (112 + mostStations * p) 1 mostStations n (routed l p))
+-- ---- the three tables of a net of n stations and g groups, row by row: "every byte of an unused .. station, route (either end not below
+-- n), channel or message is zero, its nil places included"
+module _ (l : List ℕ) (n : ℕ) where
+  abbrev pub routeRow : ℕ → Bool
+  routeRow p = table l (routesAt + mostStations * p) 1 mostStations n (λ d. routeShaped (neighbours l p) p d l (routeAt p d))
 
-unfoldable pub entriesShaped : List ℕ → ℕ → ℕ → Bool
-entriesShaped l n g = table l 368 stretchSize mostGroups g (λ k. table l (stretchAt k) entrySize mostStations n (entered l k))
+  unfoldable pub routesShaped : Bool
+  routesShaped = table l routesAt mostStations mostStations n routeRow
 
-unfoldable pub channelsShaped : List ℕ → ℕ → ℕ → Bool
-channelsShaped l n g =
-    table l 1136 channelRow mostStations n (λ s. table l (1136 + channelRow * s) channelSize mostStations n (queued l g s))
+  abbrev pub entryRow : ℕ → Bool
+  entryRow k = table l (stretchAt k) entrySize mostStations n (λ p. entryShaped (neighbours l p) (root l k) p l (entryAt k p))
+
+  unfoldable pub entriesShaped : (g : ℕ) → Bool
+  entriesShaped g = table l entriesAt stretchSize mostGroups g entryRow
+
+  abbrev pub channelsFrom : (g s : ℕ) → Bool
+  channelsFrom g s = table l (channelsAt + channelRow * s) channelSize mostStations n (λ d. channelShaped (neighbours l s) g d l (channelAt s d))
+
+  unfoldable pub channelsShaped : (g : ℕ) → Bool
+  channelsShaped g = table l channelsAt channelRow mostStations n (channelsFrom g)
 
 unfoldable pub laidOut : List ℕ → Bool
 laidOut l =
-    planned l netLength && routesShaped l (stations l) && entriesShaped l (stations l) (groups l) && channelsShaped l (stations l) (groups l)
+    planned l (ofVersion1 netLength) && routesShaped l (stations l) && entriesShaped l (stations l) (groups l) && channelsShaped l (stations l) (groups l)
 
 unfoldable pub shaped : List ℕ → Bool
 shaped l = eqb (length l) netLength && allBytes l && laidOut l

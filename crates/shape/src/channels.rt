@@ -1,67 +1,78 @@
 // The channels.
 use bits::number::wide;
+use layout::front::neighbours;
+use layout::place::CHANNEL_ROW;
+use layout::place::CHANNEL_SIZE;
+use layout::place::CHANNELS_AT;
+use layout::place::MESSAGE_SIZE;
+use layout::place::NET_LENGTH;
+use layout::place::channel_at;
 use layout::stretch::all_zero;
-use plan::cables::neighbours_of;
+use protocol::CAPACITY;
+use protocol::REPLY;
+use protocol::REQUEST;
 ghost use mathlib.Core.Path.{_≡_};
-ghost use Prim.Native.Nat.{_+_, _*_, _≤_, _<_};
+ghost use Prim.Native.Nat.{_+_, _≤_, _<_};
 ghost use lib.ListN.{length};
-ghost use Rattle.layout.specs.Layout.{messageAt};
+ghost use Rattle.protocol.specs.Net.{capacity, mostStations};
+ghost use Rattle.layout.specs.Layout.{messageAt, channelSize, messageSize, netLength};
 ghost use Rattle.layout.specs.Bounded.{table};
-ghost use Rattle.shape.specs.Shape.{messaged, queued, channelsShaped};
+ghost use Rattle.shape.specs.Shape.{messageShaped, channelShaped, channelsFrom, channelsShaped};
 
-pub fn message_shaped(s: &[u8], g: usize, at: usize) -> bool
-    requires { ⌜ at + 7 ≤ length (now s) ⌝ }
-    ensures { λ r. ⌜ r ≡ messaged (now (s .entry)) g at ⌝ }
+fn message_shaped(s: &[u8], at: usize, g: usize) -> bool
+    requires { ⌜ at + messageSize ≤ length (now s) ⌝ }
+    ensures { λ r. ⌜ r ≡ messageShaped g (now (s .entry)) at ⌝ }
 {
-    ((1 <= s[at]) & (s[at] <= 2))
+    ((REQUEST <= s[at]) & (s[at] <= REPLY))
         & (wide(s[at + 1]) < g)
         & (s[at + 2] <= 1)
-        & (!(s[at] == 1) | all_zero(s, at + 2, at + 7))
+        & (!(s[at] == REQUEST) | all_zero(s, at + 2, at + MESSAGE_SIZE))
 }
 
 // The messages of the channel at `at`: the first m, and the others.
-pub fn messages(s: &[u8], g: usize, at: usize, m: usize) -> bool
-    requires { ⌜ (at + 57 ≤ length (now s)) × (m ≤ 8) ⌝ }
-    ensures { λ r. ⌜ r ≡ table (now (s .entry)) (at + 1) 7 8 m (λ i. messaged (now (s .entry)) g (messageAt at i)) ⌝ }
+fn messages_shaped(s: &[u8], at: usize, g: usize, m: usize) -> bool
+    requires { ⌜ (at + channelSize ≤ length (now s)) × (m ≤ capacity) ⌝ }
+    ensures { λ r. ⌜ r ≡ table (now (s .entry)) (at + 1) 7 8 m (λ i. messageShaped g (now (s .entry)) (messageAt at i)) ⌝ }
 {
     let mut ok = true;
     for i in 0..m {
-        ok = ok & message_shaped(s, g, at + 1 + 7 * i);
+        ok = ok & message_shaped(s, at + 1 + MESSAGE_SIZE * i, g);
     }
-    ok & all_zero(s, at + 1 + 7 * m, at + 1 + 56)
+    ok & all_zero(s, at + 1 + MESSAGE_SIZE * m, at + CHANNEL_SIZE)
 }
 
-// The channel from p to q.
-pub fn channel_shaped(s: &[u8], g: usize, p: usize, q: usize) -> bool
-    requires { ⌜ (15728 ≤ length (now s)) × (p < 16) × (q < 16) ⌝ }
-    ensures { λ r. ⌜ r ≡ queued (now (s .entry)) g p q ⌝ }
+// The channel at `at`, to station d from one whose neighbours are m.
+fn channel_shaped(s: &[u8], at: usize, m: u16, g: usize, d: usize) -> bool
+    requires { ⌜ (at + channelSize ≤ length (now s)) × (d < mostStations) ⌝ }
+    ensures { λ r. ⌜ r ≡ channelShaped m g d (now (s .entry)) at ⌝ }
 {
-    let at = layout::place::channel(p, q);
-    let m = wide(s[at]);
-    if 8 < m {
+    let count = s[at];
+    if CAPACITY < count {
         return false;
     }
-    ((m == 0) | bits::mask::bit(neighbours_of(s, p), q)) & messages(s, g, at, m)
+    ((count == 0) | bits::mask::has_at(m, d)) & messages_shaped(s, at, g, wide(count))
 }
 
-pub fn channel_row(s: &[u8], n: usize, g: usize, p: usize) -> bool
-    requires { ⌜ (15728 ≤ length (now s)) × (n ≤ 16) × (p < 16) ⌝ }
-    ensures { λ r. ⌜ r ≡ table (now (s .entry)) (1136 + 912 * p) 57 16 n (queued (now (s .entry)) g p) ⌝ }
+fn channels_from(s: &[u8], n: usize, g: usize, p: usize) -> bool
+    requires { ⌜ (netLength ≤ length (now s)) × (n ≤ mostStations) × (p < mostStations) ⌝ }
+    ensures { λ r. ⌜ r ≡ channelsFrom (now (s .entry)) n g p ⌝ }
 {
+    let m = neighbours(s, p);
     let mut ok = true;
-    for q in 0..n {
-        ok = ok & channel_shaped(s, g, p, q);
+    for d in 0..n {
+        ok = ok & channel_shaped(s, channel_at(p, d), m, g, d);
     }
-    ok & all_zero(s, 1136 + 912 * p + 57 * n, 1136 + 912 * p + 912)
+    let row = CHANNELS_AT + CHANNEL_ROW * p;
+    ok & all_zero(s, row + CHANNEL_SIZE * n, row + CHANNEL_ROW)
 }
 
-pub fn channels(s: &[u8], n: usize, g: usize) -> bool
-    requires { ⌜ (15728 ≤ length (now s)) × (n ≤ 16) ⌝ }
+pub fn channels_shaped(s: &[u8], n: usize, g: usize) -> bool
+    requires { ⌜ (netLength ≤ length (now s)) × (n ≤ mostStations) ⌝ }
     ensures { λ r. ⌜ r ≡ channelsShaped (now (s .entry)) n g ⌝ }
 {
     let mut ok = true;
     for p in 0..n {
-        ok = ok & channel_row(s, n, g, p);
+        ok = ok & channels_from(s, n, g, p);
     }
-    ok & all_zero(s, 1136 + 912 * n, 15728)
+    ok & all_zero(s, CHANNELS_AT + CHANNEL_ROW * n, NET_LENGTH)
 }

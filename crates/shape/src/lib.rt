@@ -1,5 +1,5 @@
 // Whether bytes are a well-shaped net.
 mod channels;
-mod entries;
+mod station_entries;
 mod routes;
 pub mod whole;

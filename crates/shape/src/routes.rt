@@ -1,44 +1,53 @@
 // The routes.
-use plan::cables::neighbours_of;
+use layout::front::neighbours;
+use layout::place::ENTRIES_AT;
+use layout::place::ROUTE_ROW;
+use layout::place::ROUTES_AT;
+use layout::place::route_at;
+use layout::stretch::all_zero;
+use protocol::NIL;
 ghost use mathlib.Core.Path.{_≡_};
-ghost use Prim.Native.Nat.{_+_, _*_, _≤_, _<_};
+ghost use Prim.Native.Nat.{_≤_, _<_};
 ghost use lib.ListN.{length};
-ghost use Rattle.layout.specs.Bounded.{table};
-ghost use Rattle.shape.specs.Shape.{nilOr, routed, routesShaped};
+ghost use Rattle.protocol.specs.Net.{mostStations};
+ghost use Rattle.layout.specs.Layout.{netLength};
+ghost use Rattle.shape.specs.Shape.{nilOr, routeShaped, routeRow, routesShaped};
 
 // Whether r is nil or one of the neighbours m.
 pub fn nil_or(m: u16, r: u8) -> bool
     ensures { λ r'. ⌜ r' ≡ nilOr m r ⌝ }
 {
-    (r == 255) | bits::mask::has(m, r)
+    (r == NIL) | bits::mask::has(m, r)
 }
 
-pub fn route_shaped(s: &[u8], p: usize, d: usize) -> bool
-    requires { ⌜ (15728 ≤ length (now s)) × (p < 16) × (d < 16) ⌝ }
-    ensures { λ r. ⌜ r ≡ routed (now (s .entry)) p d ⌝ }
+// The route at `at`, from p towards d; m are the neighbours of p.
+fn route_shaped(s: &[u8], at: usize, m: u16, p: usize, d: usize) -> bool
+    requires { ⌜ at < length (now s) ⌝ }
+    ensures { λ r. ⌜ r ≡ routeShaped m p d (now (s .entry)) at ⌝ }
 {
-    let r = s[layout::place::route(p, d)];
-    nil_or(neighbours_of(s, p), r) & (!(p == d) | (r == 255))
+    nil_or(m, s[at]) & (!(p == d) | (s[at] == NIL))
 }
 
-pub fn route_row(s: &[u8], n: usize, p: usize) -> bool
-    requires { ⌜ (15728 ≤ length (now s)) × (n ≤ 16) × (p < 16) ⌝ }
-    ensures { λ r. ⌜ r ≡ table (now (s .entry)) (112 + 16 * p) 1 16 n (routed (now (s .entry)) p) ⌝ }
+fn route_row(s: &[u8], n: usize, p: usize) -> bool
+    requires { ⌜ (netLength ≤ length (now s)) × (n ≤ mostStations) × (p < mostStations) ⌝ }
+    ensures { λ r. ⌜ r ≡ routeRow (now (s .entry)) n p ⌝ }
 {
+    let m = neighbours(s, p);
     let mut ok = true;
     for d in 0..n {
-        ok = ok & route_shaped(s, p, d);
+        ok = ok & route_shaped(s, route_at(p, d), m, p, d);
     }
-    ok & layout::stretch::all_zero(s, 112 + 16 * p + n, 112 + 16 * p + 16)
+    let row = ROUTES_AT + ROUTE_ROW * p;
+    ok & all_zero(s, row + n, row + ROUTE_ROW)
 }
 
-pub fn routes(s: &[u8], n: usize) -> bool
-    requires { ⌜ (15728 ≤ length (now s)) × (n ≤ 16) ⌝ }
+pub fn routes_shaped(s: &[u8], n: usize) -> bool
+    requires { ⌜ (netLength ≤ length (now s)) × (n ≤ mostStations) ⌝ }
     ensures { λ r. ⌜ r ≡ routesShaped (now (s .entry)) n ⌝ }
 {
     let mut ok = true;
     for p in 0..n {
         ok = ok & route_row(s, n, p);
     }
-    ok & layout::stretch::all_zero(s, 112 + 16 * n, 368)
+    ok & all_zero(s, ROUTES_AT + ROUTE_ROW * n, ENTRIES_AT)
 }

@@ -1,29 +1,33 @@
 // The whole of a net.
 use bits::number::wide;
+use layout::front::groups;
+use layout::front::stations;
+use layout::place::NET_LENGTH;
 ghost use mathlib.Core.Path.{_≡_};
 ghost use lib.ListN.{length};
+ghost use Rattle.layout.specs.Layout.{netLength};
 ghost use Rattle.shape.specs.Shape.{laidOut, shaped};
 
-pub fn laid_out(s: &[u8]) -> bool
-    requires { ⌜ length (now s) ≡ 15728 ⌝ }
+fn laid_out(s: &[u8]) -> bool
+    requires { ⌜ length (now s) ≡ netLength ⌝ }
     ensures { λ r. ⌜ r ≡ laidOut (now (s .entry)) ⌝ }
 {
-    if plan::whole::plan_part(s, 15728) {
-        let n = wide(s[5]);
-        let g = wide(s[6]);
-        crate::routes::routes(s, n)
-            & crate::entries::entries(s, n, g)
-            & crate::channels::channels(s, n, g)
+    if plan::whole::planned(s, NET_LENGTH as u32) {
+        let n = wide(stations(s));
+        let g = wide(groups(s));
+        crate::routes::routes_shaped(s, n)
+            & crate::station_entries::entries_shaped(s, n, g)
+            & crate::channels::channels_shaped(s, n, g)
     } else {
         false
     }
 }
 
 // Whether the bytes are a well-shaped net.
-pub fn is_net(s: &[u8]) -> bool
+pub fn shaped(s: &[u8]) -> bool
     ensures { λ r. ⌜ r ≡ shaped (now (s .entry)) ⌝ }
 {
-    if s.len() != 15728 {
+    if s.len() != NET_LENGTH {
         return false;
     }
     laid_out(s)

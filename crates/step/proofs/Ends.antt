@@ -12,28 +12,28 @@ use Rattle.protocol.specs.Net.{Net}
 use Rattle.protocol.specs.Rules.{Rule}
 use Rattle.protocol.specs.Steps.{verdict, action?, rule, outcome, step}
 use Rattle.net.specs.View.{view}
-use Rattle.net.proofs.Whole.{view-bytes}
-use Rattle.cells.specs.Ready.{Ready}
-use Rattle.act.specs.declared.Done.{Done}
-use Rattle.act.specs.Did.{refusal, doneBy, leftBy, Did}
+use Rattle.access.specs.Nets.{IsNet}
+use Rattle.action.specs.declared.Answer.{Answer}
+use Rattle.action.specs.Ends.{refusedWith, answerBy, netAfterAction, ActionEnd}
 use Rattle.shape.specs.Shape.{shaped}
-use Rattle.step.specs.Stepped.{stepOutcome, stepLeaves, stepDone, Stepped}
+use Rattle.step.specs.Steps.{stepOutcome, netAfterStep, stepAnswer, StepEnd}
+use Rattle.net.proofs.Saved.{view-bytes}
 
-module _ (l : List ℕ) (r : Ready l) (k a b c : ℕ) where
+module _ (l : List ℕ) (r : IsNet l) (k a b c : ℕ) where
   abbrev R : Rule Net
   R = rule (view l) k a b c
 
   -- an action with a number did what its rule says
-  pub takes : {d : Done} {l' : List ℕ} → action? k ≡ true → Did R l d l' → Stepped l k a b c d l'
-  unfolding stepDone outcome step doneBy leftBy
+  pub takes : {d : Answer} {l' : List ℕ} → action? k ≡ true → ActionEnd R l d l' → StepEnd l k a b c d l'
+  unfolding stepAnswer outcome step answerBy netAfterAction
   takes t D = record {
     answer = D .answer ∙ rw t refl;
     bytes = D .bytes ∙ by-bool (eqb (verdict R) 0) (λ e. rw (t, e) refl) (λ e. rw (t, e) (sym (view-bytes l (r .good))));
   }
 
   -- a number that names no action
-  pub unknown : {d : Done} → action? k ≡ false → d ≡ refusal 2 → Stepped l k a b c d l
-  unfolding stepDone outcome step
+  pub unknown : {d : Answer} → action? k ≡ false → d ≡ refusedWith 2 → StepEnd l k a b c d l
+  unfolding stepAnswer outcome step
   unknown f e = record { answer = e ∙ rw f refl; bytes = rw f (sym (view-bytes l (r .good))) }
 
 -- a number that is none of one to nine names no action
@@ -47,12 +47,12 @@ no-action k n1 n2 n3 n4 n5 n6 n7 n8 n9 = by-lt 0 k
 
 -- any bytes: a net's, and others
 module _ (l : List ℕ) (k a b c : ℕ) where
-  pub on-net : shaped l ≡ true → {d : Done} {l' : List ℕ} → Stepped l k a b c d l' → (d .outcome ≡ stepOutcome l k a b c) × (l' ≡ stepLeaves l k a b c)
-  unfolding stepOutcome stepLeaves stepDone step
+  pub on-net : shaped l ≡ true → {d : Answer} {l' : List ℕ} → StepEnd l k a b c d l' → (d .outcome ≡ stepOutcome l k a b c) × (l' ≡ netAfterStep l k a b c)
+  unfolding stepOutcome netAfterStep stepAnswer step
   on-net s D = rw s (by-bool (eqb (outcome (view l) k a b c) 0)
-      (λ t. (ap (λ (d : Done). d .outcome) (D .answer) ∙ rw t (sym (eqb-true _ _ t)), D .bytes ∙ rw t))
-      (λ f. (ap (λ (d : Done). d .outcome) (D .answer) ∙ rw f, D .bytes ∙ rw f (view-bytes l s))))
+      (λ t. (ap (λ (d : Answer). d .outcome) (D .answer) ∙ rw t (sym (eqb-true _ _ t)), D .bytes ∙ rw t))
+      (λ f. (ap (λ (d : Answer). d .outcome) (D .answer) ∙ rw f, D .bytes ∙ rw f (view-bytes l s))))
 
-  pub on-none : shaped l ≡ false → (1 ≡ stepOutcome l k a b c) × (l ≡ stepLeaves l k a b c)
-  unfolding stepOutcome stepLeaves
+  pub on-none : shaped l ≡ false → (1 ≡ stepOutcome l k a b c) × (l ≡ netAfterStep l k a b c)
+  unfolding stepOutcome netAfterStep
   on-none f = rw f (refl, refl)

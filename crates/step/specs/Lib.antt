@@ -1,2 +1,2 @@
 -- One step over bytes.
-pub mod Stepped
+pub mod Steps

@@ -1,13 +1,13 @@
 // One step of a net in bytes.
-use act::Done;
+use action::Answer;
 ghost use mathlib.Core.Path.{_≡_};
-ghost use Rattle.cells.specs.Ready.{Ready};
-ghost use Rattle.step.specs.Stepped.{Stepped, stepOutcome, stepLeaves};
+ghost use Rattle.access.specs.Nets.{IsNet};
+ghost use Rattle.step.specs.Steps.{StepEnd, stepOutcome, netAfterStep};
 
 // A step of bytes that are a net's: what a run repeats.
-pub fn step_in(net: &mut [u8], action: u8, a: u8, b: u8, c: u8) -> Done
-    requires { ⌜ Ready (now net) ⌝ }
-    ensures { λ r. ⌜ Stepped (now (net .entry)) action a b c r (now (net .exit)) ⌝ }
+pub fn step_in(net: &mut [u8], action: u8, a: u8, b: u8, c: u8) -> Answer
+    requires { ⌜ IsNet (now net) ⌝ }
+    ensures { λ r. ⌜ StepEnd (now (net .entry)) action a b c r (now (net .exit)) ⌝ }
 {
     match action {
         1 => settings::tick(net, a, b, c),
@@ -19,15 +19,15 @@ pub fn step_in(net: &mut [u8], action: u8, a: u8, b: u8, c: u8) -> Done
         7 => leaves::drop_child(net, a, b, c),
         8 => leaves::member(net, a, b, c),
         9 => settings::route(net, a, b, c),
-        0 | 10..=255 => act::answer::refused(2),
+        0 | 10..=255 => action::answers::refused(2),
     }
 }
 
 // A step of any bytes: its outcome number.
 pub fn step(net: &mut [u8], action: u8, a: u8, b: u8, c: u8) -> u8
-    ensures { λ r. ⌜ (r ≡ stepOutcome (now (net .entry)) action a b c) × (now (net .exit) ≡ stepLeaves (now (net .entry)) action a b c) ⌝ }
+    ensures { λ r. ⌜ (r ≡ stepOutcome (now (net .entry)) action a b c) × (now (net .exit) ≡ netAfterStep (now (net .entry)) action a b c) ⌝ }
 {
-    if shape::whole::is_net(net) {
+    if shape::whole::shaped(net) {
         step_in(net, action, a, b, c).outcome
     } else {
         1

@@ -5,18 +5,18 @@ use native.Mathlib.Omega.{arith}
 use borrow.Author.Tests.{not-true, not-false}
 use Rattle.protocol.specs.declared.Entry.{Entry}
 use Rattle.protocol.specs.Net.{Net, setEntry}
-use Rattle.protocol.specs.Entries.{unwaiting}
+use Rattle.protocol.specs.Entries.{stopsWaiting}
 use Rattle.protocol.specs.Rules as rule
 use Rattle.protocol.specs.Shaped.{Shaped}
 use Rattle.net.specs.View.{view}
 use Rattle.net.specs.Encode.{bytesOf}
-use Rattle.net.proofs.Seen.{seen}
-use Rattle.act.proofs.Ends.{ends-3, ends-4, ends-0}
-use Rattle.act.proofs.InRange.{pair-in}
+use Rattle.action.proofs.Ends.{ends-3, ends-4, ends-0}
+use Rattle.action.proofs.InRange.{pair-in}
 use Rattle.protocol.specs.Rules.{Rule}
 use borrow.Author.Needs.{needs}
 use Rattle.asks.proofs.give_up.Statement.{statement}
 use Rattle.asks.proofs.give_up.Tie as tie
+use Rattle.net.proofs.Saved.{seen}
 
 abbrev N : tie.Start → Net
 N s = view (s .args .net .now)
@@ -64,11 +64,11 @@ returns-2 c = ends-4 _ _ (c .refused2 .ensures) (operands (c .before .before .be
 entry-of-requires : tie.Need-entry-of-requires
 entry-of-requires c κs = let w = in-range (c .before .before .before .before) in (c .before .before .before .before .before .before .before .before .pre, (w .0, w .1))
 
-unwaiting-requires : tie.Need-unwaiting-requires
-unwaiting-requires c κs = let w = in-range (c .before .before .before .before .before .before) in omega (arith, w .2, c .before .before .before .before .before .before .before .before .before .before .pre .few)
+stops-waiting-requires : tie.Need-stops-waiting-requires
+stops-waiting-requires c κs = let w = in-range (c .before .before .before .before .before .before) in omega (arith, w .2, c .before .before .before .before .before .before .before .before .before .before .pre .few)
 
-put-entry-requires : tie.Need-put-entry-requires
-put-entry-requires c κs = let w = in-range (c .before .before .before .before .before .before .before) in (c .before .before .before .before .before .before .before .before .before .before .before .pre, (w .0, w .1))
+set-entry-requires : tie.Need-set-entry-requires
+set-entry-requires c κs = let w = in-range (c .before .before .before .before .before .before .before) in (c .before .before .before .before .before .before .before .before .before .before .before .pre, (w .0, w .1))
 
 accepted-requires : tie.Need-accepted-requires
 accepted-requires c κs = search needs
@@ -81,7 +81,7 @@ unfolding rule.giveUp
 returns-3 c = let a = c .before .before .before .before .before .before .before .before .before .before .before .before .before .before .before .args in
     ends-0 _ _ (c .accepted .ensures)
     (record { operands = operands (c .before .before .before .before .before .before .before .before .before .before .before); enabled = sym (c .before .before .before .before .before .before .before .before .before .may-give-up .ensures) ∙ not-false _ (c .before .before .before .before .before .before .before .before .if2 .left); clockRoom = refl; sendRoom = refl })
-    (c .before .before .before .put-entry .ensures ∙ ap (λ (e : Entry). bytesOf (setEntry (N (c .before .before .before .before .before .before .before .before .before .before .before .before .before .before .before)) (a .g) (a .p) e)) (c .before .before .before .before .unwaiting .ensures ∙ ap (λ (e : Entry). unwaiting e (a .q)) (c .before .before .before .before .before .before .entry-of .ensures)))
+    (c .before .before .before .set-entry .ensures ∙ ap (λ (e : Entry). bytesOf (setEntry (N (c .before .before .before .before .before .before .before .before .before .before .before .before .before .before .before)) (a .g) (a .p) e)) (c .before .before .before .before .stops-waiting .ensures ∙ ap (λ (e : Entry). stopsWaiting e (a .q)) (c .before .before .before .before .before .before .entry-of .ensures)))
 
 pub give-up-spec : {M : Type 1} → statement M
 give-up-spec =
@@ -96,8 +96,8 @@ give-up-spec =
     same-length-2
     returns-2
     entry-of-requires
-    unwaiting-requires
-    put-entry-requires
+    stops-waiting-requires
+    set-entry-requires
     accepted-requires
     same-length-3
     returns-3)

@@ -13,14 +13,14 @@ use Rattle.protocol.specs.Rules as rule
 use Rattle.protocol.specs.Shaped.{Shaped}
 use Rattle.net.specs.View.{view}
 use Rattle.net.specs.Encode.{bytesOf}
-use Rattle.net.proofs.Seen.{seen}
-use Rattle.act.proofs.Ends.{ends-3, ends-4, ends-6, ends-0}
-use Rattle.act.proofs.InRange.{station-in}
+use Rattle.action.proofs.Ends.{ends-3, ends-4, ends-6, ends-0}
+use Rattle.action.proofs.InRange.{station-in}
 use Rattle.protocol.proofs.Keeps.{cable, refresh-near, refresh-entry}
 use Rattle.protocol.specs.Rules.{Rule}
 use borrow.Author.Needs.{needs}
 use Rattle.asks.proofs.refresh.Statement.{statement}
 use Rattle.asks.proofs.refresh.Tie as tie
+use Rattle.net.proofs.Saved.{seen}
 
 abbrev N : tie.Start → Net
 N s = view (s .args .net .now)
@@ -105,8 +105,8 @@ returns-3 c = ends-6 _ _ (c .refused3 .ensures) (operands (c .before .before .be
 waits-on-requires : tie.Need-waits-on-requires
 waits-on-requires c κs = omega (arith, near (c .before .before .before .before), c .before .before .before .before .before .before .before .before .before .before .before .before .pre .few)
 
-request-requires : tie.Need-request-requires
-request-requires c κs = search needs
+request-of-requires : tie.Need-request-of-requires
+request-of-requires c κs = search needs
 
 post-requires : tie.Need-post-requires
 unfolding room?
@@ -132,7 +132,7 @@ unfolding rule.refresh
 returns-4 c = let a = c .before .before .before .before .before .before .before .before .before .before .before .before .before .before .before .before .before .before .args in
     ends-0 _ _ (c .accepted .ensures)
     (record { operands = operands (c .before .before .before .before .before .before .before .before .before .before .before .before .before .before); enabled = enabled (c .before .before .before .before .before .before .before .before .before .before); clockRoom = refl; sendRoom = sym (roomy (c .before .before .before .before .before .before .before .before)) ∙ not-false _ (c .before .before .before .before .before .before .before .if3 .left) })
-    (c .before .before .before .post .ensures ∙ (λ i. bytesOf (send (setEntry (N (c .before .before .before .before .before .before .before .before .before .before .before .before .before .before .before .before .before .before)) (a .g) (a .p) (entry (c .before .before .before .before .before) i)) (a .p) (parent (c .before .before .before .before .before .before .before .before .before .before .before .before) i) (c .before .before .before .before .request .ensures i))))
+    (c .before .before .before .post .ensures ∙ (λ i. bytesOf (send (setEntry (N (c .before .before .before .before .before .before .before .before .before .before .before .before .before .before .before .before .before .before)) (a .g) (a .p) (entry (c .before .before .before .before .before) i)) (a .p) (parent (c .before .before .before .before .before .before .before .before .before .before .before .before) i) (c .before .before .before .before .request-of .ensures i))))
 
 pub refresh-spec : {M : Type 1} → statement M
 refresh-spec =
@@ -152,7 +152,7 @@ refresh-spec =
     same-length-3
     returns-3
     waits-on-requires
-    request-requires
+    request-of-requires
     post-requires
     accepted-requires
     same-length-4

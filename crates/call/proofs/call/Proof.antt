@@ -1,34 +1,53 @@
-use mathlib.Core.Path.{sym, _∙_}
-use mathlib.Core.Bool.{_&&_}
+use mathlib.Core.Path.{_≡_, sym, ap₂, _∙_}
+use mathlib.Core.Bool.{true, _&&_}
 use borrow.Author.Tests.{not-true, not-false}
+use Rattle.protocol.specs.Net.{group?, station?}
+use Rattle.shape.specs.Shape.{shaped}
 use Rattle.net.specs.View.{view}
-use Rattle.cells.proofs.Cells.{ready}
+use Rattle.access.proofs.Laws.{is-net}
 use Rattle.call.proofs.Ends.{in-both, ends-1, ends-3, ends-10}
 use borrow.Author.Needs.{needs}
 use Rattle.call.proofs.call.Statement.{statement}
 use Rattle.call.proofs.call.Tie as tie
 
-is-net-requires : tie.Need-is-net-requires
-is-net-requires c κs = search needs
+-- the net is well shaped, and the group and the station are of it
+ok : (x : tie.Else1) → shaped (x .before .before .before .before .args .net .now) ≡ true
+ok x = sym (x .before .shaped .ensures) ∙ not-false _ (x .if1 .left)
+
+both : (x : tie.After-is-station) → let a = x .before .before .before .before .before .before .args in
+    (x .before .is-group .result && x .is-station .result) ≡ (group? (view (a .net .now)) (a .g) && station? (view (a .net .now)) (a .c))
+both x = ap₂ _&&_ (x .before .is-group .ensures) (x .is-station .ensures)
+
+shaped-requires : tie.Need-shaped-requires
+shaped-requires c κs = search needs
 
 returns : tie.Need-returns
-returns c = let a = c .before .before .before .before .args in ends-1 (a .net .now) (a .g) (a .c) (a .out .now) (sym (c .before .is-net .ensures) ∙ not-true _ (c .if1 .taken))
+returns c = let a = c .before .before .before .before .args in
+    ends-1 (a .net .now) (a .g) (a .c) (a .out .now) (sym (c .before .shaped .ensures) ∙ not-true _ (c .if1 .taken))
 
 is-group-requires : tie.Need-is-group-requires
-is-group-requires c κs = ready _ (sym (c .before .is-net .ensures) ∙ not-false _ (c .if1 .left))
+is-group-requires c κs = is-net _ (ok c)
 
 is-station-requires : tie.Need-is-station-requires
-is-station-requires c κs = ready _ (sym (c .before .before .is-net .ensures) ∙ not-false _ (c .before .if1 .left))
+is-station-requires c κs = is-net _ (ok (c .before))
 
 returns-2 : tie.Need-returns-2
-returns-2 c = let a = c .before .before .before .before .before .before .before .args in ends-3 (a .net .now) (a .g) (a .c) (a .out .now) (sym (c .before .before .before .before .is-net .ensures) ∙ not-false _ (c .before .before .before .if1 .left)) (sym (λ i. c .before .before .is-group .ensures i && c .before .is-station .ensures i) ∙ not-true _ (c .if2 .taken))
+returns-2 c = let x = c .before .before .before in
+    let a = x .before .before .before .before .args in
+    ends-3 (a .net .now) (a .g) (a .c) (a .out .now) (ok x) (sym (both (c .before)) ∙ not-true _ (c .if2 .taken))
 
 returns-3 : tie.Need-returns-3
-returns-3 c = let a = c .before .before .before .before .before .before .before .before .args in ends-10 (a .net .now) (a .g) (a .c) (a .out .now) (sym (c .before .before .before .before .before .is-net .ensures) ∙ not-false _ (c .before .before .before .before .if1 .left)) (sym (λ i. c .before .before .before .is-group .ensures i && c .before .before .is-station .ensures i) ∙ not-false _ (c .before .if2 .left)) (c .if3 .taken)
+returns-3 c = let y = c .before in
+    let x = y .before .before .before in
+    let a = x .before .before .before .before .args in
+    ends-10 (a .net .now) (a .g) (a .c) (a .out .now) (ok x) (sym (both (y .before)) ∙ not-false _ (y .if2 .left)) (c .if3 .taken)
 
 call-in-requires : tie.Need-call-in-requires
-call-in-requires c κs = let w = in-both (view (c .before .before .before .before .before .before .before .before .before .args .net .now)) (c .before .before .before .before .before .before .before .before .before .args .g) (c .before .before .before .before .before .before .before .before .before .args .c) (sym (λ i. c .before .before .before .before .is-group .ensures i && c .before .before .before .is-station .ensures i) ∙ not-false _ (c .before .before .if2 .left)) in
-    (ready _ (sym (c .before .before .before .before .before .before .is-net .ensures) ∙ not-false _ (c .before .before .before .before .before .if1 .left)), (w .0, w .1, c .before .if3 .left))
+call-in-requires c κs = let y = c .before .before in
+    let x = y .before .before .before in
+    let a = x .before .before .before .before .args in
+    let w = in-both (view (a .net .now)) (a .g) (a .c) (sym (both (y .before)) ∙ not-false _ (y .if2 .left)) in
+    (is-net _ (ok x), (w .0, w .1, c .before .if3 .left))
 
 same-length : tie.Need-same-length
 same-length c = search needs
@@ -40,7 +59,7 @@ pub call-spec : {M : Type 1} → statement M
 call-spec =
     tie.close
     (tie.spec
-    is-net-requires
+    shaped-requires
     returns
     is-group-requires
     is-station-requires

@@ -3,7 +3,7 @@ use mathlib.Core.Logic.{⊎-elim}
 use Prim.Native.Nat.{_≤_, _<_, _-_, _+_}
 use native.Mathlib.Omega.{arith}
 use lib.ListN.{length, List·getD-eq-default}
-use Rattle.channel.specs.Slots.{movedUp}
+use Rattle.channel.specs.inner.Channels.{movedUp}
 use Rattle.channel.proofs.Moved.{upto, length-upto, upto-all, moved-turn, moved-ahead, length-movedUp}
 use Rattle.channel.proofs.move_up.Statement.{statement}
 use Rattle.channel.proofs.move_up.Tie as tie

@@ -2,7 +2,8 @@ use mathlib.Core.Path.{_∙_}
 use native.Mathlib.Nat.{add-sub-cancel-left}
 use native.Mathlib.Omega.{arith}
 use Rattle.protocol.specs.Net.{capacity}
-use Rattle.channel.specs.Messages.{messageSize, messageBytes}
+use Rattle.layout.specs.Layout.{messageSize}
+use Rattle.channel.specs.Messages.{messageBytes}
 use Rattle.channel.proofs.Slots.{sent}
 use Rattle.channel.proofs.Messages.{queue, sent-list, length-messageBytes}
 use borrow.Author.Needs.{needs}

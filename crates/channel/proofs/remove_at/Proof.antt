@@ -1,7 +1,7 @@
 use mathlib.Core.Path.{_∙_}
 use native.Mathlib.Omega.{arith}
 use Rattle.protocol.specs.Net.{capacity}
-use Rattle.channel.specs.Messages.{messageSize}
+use Rattle.layout.specs.Layout.{messageSize}
 use Rattle.channel.proofs.Slots.{removed}
 use Rattle.channel.proofs.Messages.{queue, removed-list}
 use borrow.Author.Needs.{needs}

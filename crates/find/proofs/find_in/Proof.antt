@@ -1,6 +1,8 @@
 use mathlib.Core.Path.{_≡_, sym, subst, _∙_}
+use mathlib.Core.List.{List}
 use Prim.Native.Nat.{ℕ, _≤_, _<_, _-_}
 use native.Mathlib.Omega.{arith}
+use Rattle.protocol.specs.Net.{Net}
 use Rattle.net.specs.View.{view}
 use Rattle.find.proofs.Names.{Still, still-start, still-next, still-hit, still-miss}
 use Rattle.find.proofs.find_in.Statement.{statement}
@@ -12,17 +14,33 @@ Inv-loop net name n g₀ g = (g ≤ n) × (n ≡ view net .groups) × Still (vie
 abbrev μ-loop : tie.MeasureT-loop
 μ-loop net name n g₀ g = n - g
 
-shared-slice-read-n : tie.Need-shared-slice-read-n Inv-loop μ-loop
-shared-slice-read-n c = omega (arith, c .before .before .before .pre .long)
+-- the search at the head of the loop
+abbrev start : tie.At-loop Inv-loop μ-loop → tie.Start Inv-loop μ-loop
+start x = x .before .before .before .before
+
+abbrev N : tie.At-loop Inv-loop μ-loop → Net
+N x = view (start x .args .net .now)
+
+abbrev w : tie.At-loop Inv-loop μ-loop → List ℕ
+w x = start x .args .name .now
+
+below : (y : tie.In-loop Inv-loop μ-loop) → y .before .loop .g < N (y .before) .groups
+below y = subst (λ (k : ℕ). y .before .loop .g < k) (y .before .loop .inv .1) (y .loop-test .taken)
+
+groups-requires : tie.Need-groups-requires Inv-loop μ-loop
+groups-requires c κs = c .before .before .pre
 
 loop-holds : tie.Need-loop-holds Inv-loop μ-loop
-loop-holds c = (omega arith, sym (c .before .before .before .pre .groupsAt), still-start (view (c .before .before .before .args .net .now)) (c .before .before .before .args .name .now))
+loop-holds c = let a = c .before .before .before .args in
+    (omega arith, c .groups .ensures, still-start (view (a .net .now)) (a .name .now))
 
 has-name-requires : tie.Need-has-name-requires Inv-loop μ-loop
-has-name-requires c κs = (c .before .before .before .before .before .pre, subst (λ (k : ℕ). c .before .loop .g < k) (c .before .loop .inv .1) (c .loop-test .taken))
+has-name-requires c κs = (start (c .before) .pre, below c)
 
 returns : tie.Need-returns Inv-loop μ-loop
-returns c = still-hit (view (c .before .before .before .before .before .before .before .args .net .now)) (c .before .before .before .before .before .before .before .args .name .now) (c .before .before .before .loop .g) (subst (λ (k : ℕ). c .before .before .before .loop .g < k) (c .before .before .before .loop .inv .1) (c .before .before .loop-test .taken)) (c .before .before .before .loop .inv .2) (sym (c .before .has-name .ensures) ∙ c .if1 .taken)
+returns c = let y = c .before .before in
+    let x = y .before in
+    still-hit (N x) (w x) (x .loop .g) (below y) (x .loop .inv .2) (sym (c .before .has-name .ensures) ∙ c .if1 .taken)
 
 add-g : tie.Need-add-g Inv-loop μ-loop
 add-g c = omega arith
@@ -31,10 +49,16 @@ loop-less : tie.Need-loop-less Inv-loop μ-loop
 loop-less c = omega arith
 
 loop-again : tie.Need-loop-again Inv-loop μ-loop
-loop-again c = (omega arith, c .before .before .before .loop .inv .1, still-next (view (c .before .before .before .before .before .before .before .args .net .now)) (c .before .before .before .before .before .before .before .args .name .now) (c .before .before .before .loop .g) (subst (λ (k : ℕ). c .before .before .before .loop .g < k) (c .before .before .before .loop .inv .1) (c .before .before .loop-test .taken)) (c .before .before .before .loop .inv .2) (sym (c .before .has-name .ensures) ∙ c .if1 .left))
+loop-again c = let y = c .before .before in
+    let x = y .before in (
+      omega arith,
+      x .loop .inv .1,
+      still-next (N x) (w x) (x .loop .g) (below y) (x .loop .inv .2) (sym (c .before .has-name .ensures) ∙ c .if1 .left),
+    )
 
 returns-2 : tie.Need-returns-2 Inv-loop μ-loop
-returns-2 c = still-miss (view (c .before .before .before .before .before .args .net .now)) (c .before .before .before .before .before .args .name .now) (c .before .loop .g) (omega (arith, c .before .loop .inv .1)) (omega (arith, c .before .loop .inv .1)) (c .before .loop .inv .2)
+returns-2 c = let x = c .before in
+    still-miss (N x) (w x) (x .loop .g) (omega (arith, x .loop .inv .1)) (omega (arith, x .loop .inv .1)) (x .loop .inv .2)
 
 pub find-in-spec : {M : Type 1} → statement M
 find-in-spec =
@@ -42,7 +66,7 @@ find-in-spec =
     (tie.spec
     Inv-loop
     μ-loop
-    shared-slice-read-n
+    groups-requires
     loop-holds
     has-name-requires
     returns

@@ -5,13 +5,13 @@ use Rattle.bits.specs.Parts.{splice}
 use Rattle.bits.proofs.Parts.{back, lent-back}
 use Rattle.net.specs.Encode.{entryBytes}
 use Rattle.net.proofs.Records.{length-entryBytes}
-use Rattle.fresh.specs.Laying.{entryBlank}
+use Rattle.fresh.specs.inner.Laying.{entryBlank}
 use borrow.Author.Needs.{needs}
 use Rattle.fresh.proofs.blank_entry.Statement.{statement}
 use Rattle.fresh.proofs.blank_entry.Tie as tie
 
-entry-stretch-requires : tie.Need-entry-stretch-requires
-entry-stretch-requires c κs = search needs
+stretch-at-requires : tie.Need-stretch-at-requires
+stretch-at-requires c κs = search needs
 
 add-write-entry : tie.Need-add-write-entry
 add-write-entry c = search needs
@@ -25,8 +25,8 @@ part-write-entry-start c = search needs
 part-write-entry-end : tie.Need-part-write-entry-end
 part-write-entry-end c = search needs
 
-no-entry-requires : tie.Need-no-entry-requires
-no-entry-requires c κs = search needs
+blank-requires : tie.Need-blank-requires
+blank-requires c κs = search needs
 
 write-entry-requires : tie.Need-write-entry-requires
 write-entry-requires c κs = search needs
@@ -38,21 +38,21 @@ returns : tie.Need-returns
 unfolding entryBlank
 returns c = let l = c .before .before .before .before .before .before .before .args .net .now in
     let p = c .before .before .before .before .before .before .before .args .p in
-    let a = c .before .before .before .before .before .entry-stretch .result in
+    let a = c .before .before .before .before .before .stretch-at .result in
     ap (back a (a + 192 - a) l) (c .before .before .write-entry .ensures)
-    ∙ lent-back a (a + 192 - a) l (12 * p) (entryBytes (c .before .before .before .no-entry .result)) (omega (arith, length-entryBytes (c .before .before .before .no-entry .result)))
-    ∙ (λ i. splice l (c .before .before .before .before .before .entry-stretch .ensures .0 i + 12 * p) (entryBytes (c .before .before .before .no-entry .ensures i)))
+    ∙ lent-back a (a + 192 - a) l (12 * p) (entryBytes (c .before .before .before .blank .result)) (omega (arith, length-entryBytes (c .before .before .before .blank .result)))
+    ∙ (λ i. splice l (c .before .before .before .before .before .stretch-at .ensures .0 i + 12 * p) (entryBytes (c .before .before .before .blank .ensures i)))
 
 pub blank-entry-spec : {M : Type 1} → statement M
 blank-entry-spec =
     tie.close
     (tie.spec
-    entry-stretch-requires
+    stretch-at-requires
     add-write-entry
     sub-write-entry
     part-write-entry-start
     part-write-entry-end
-    no-entry-requires
+    blank-requires
     write-entry-requires
     same-length
     returns)

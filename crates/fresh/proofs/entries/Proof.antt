@@ -2,7 +2,7 @@ use mathlib.Core.Path.{_≡_, refl, ap, _∙_}
 use Prim.Native.Nat.{_≤_, _-_}
 use native.Mathlib.Omega.{arith}
 use lib.ListN.{length}
-use Rattle.fresh.specs.Laying.{inRows, entryBlank}
+use Rattle.fresh.specs.inner.Laying.{inRows, entryBlank}
 use Rattle.fresh.proofs.Turns.{rows-turn}
 use Rattle.fresh.proofs.entries.Statement.{statement}
 use Rattle.fresh.proofs.entries.Tie as tie

@@ -2,7 +2,7 @@ use mathlib.Core.Path.{_≡_, refl, ap, _∙_}
 use Prim.Native.Nat.{_≤_, _-_}
 use native.Mathlib.Omega.{arith}
 use lib.ListN.{length}
-use Rattle.fresh.specs.Laying.{inRow, entryBlank}
+use Rattle.fresh.specs.inner.Laying.{inRow, entryBlank}
 use Rattle.fresh.proofs.Turns.{row-turn}
 use Rattle.fresh.proofs.entries_of.Statement.{statement}
 use Rattle.fresh.proofs.entries_of.Tie as tie

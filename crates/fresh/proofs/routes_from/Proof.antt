@@ -3,13 +3,13 @@ use Prim.Native.Nat.{_≤_, _-_}
 use native.Mathlib.Omega.{arith}
 use lib.ListN.{length, set, length-set}
 use Rattle.bits.specs.Parts.{splice}
-use Rattle.fresh.specs.Laying.{inRow, routeGone}
+use Rattle.fresh.specs.inner.Laying.{inRow, routeNil}
 use Rattle.fresh.proofs.Turns.{row-turn}
 use Rattle.fresh.proofs.routes_from.Statement.{statement}
 use Rattle.fresh.proofs.routes_from.Tie as tie
 
 abbrev Inv-loop : tie.InvT-loop
-Inv-loop net₀ p n d₀ net d = (d ≤ n) × (net ≡ inRow routeGone net₀ p d) × (length net ≡ length net₀)
+Inv-loop net₀ p n d₀ net d = (d ≤ n) × (net ≡ inRow routeNil net₀ p d) × (length net ≡ length net₀)
 
 abbrev μ-loop : tie.MeasureT-loop
 μ-loop net₀ p n d₀ net d = n - d
@@ -18,11 +18,11 @@ loop-holds : tie.Need-loop-holds Inv-loop μ-loop
 unfolding inRow
 loop-holds c = (omega arith, refl, refl)
 
-route-requires : tie.Need-route-requires Inv-loop μ-loop
-route-requires c κs = omega arith
+route-at-requires : tie.Need-route-at-requires Inv-loop μ-loop
+route-at-requires c κs = omega arith
 
 slice-write-net : tie.Need-slice-write-net Inv-loop μ-loop
-slice-write-net c = omega (arith, c .route .ensures)
+slice-write-net c = omega (arith, c .route-at .ensures)
 
 add-d : tie.Need-add-d Inv-loop μ-loop
 add-d c = omega arith
@@ -31,9 +31,9 @@ loop-less : tie.Need-loop-less Inv-loop μ-loop
 loop-less c = omega arith
 
 loop-again : tie.Need-loop-again Inv-loop μ-loop
-unfolding routeGone splice
+unfolding routeNil splice
 loop-again c = let l = c .before .before .loop in
-    (omega arith, ap (λ k. set (l .net) k 255) (c .route .ensures .0) ∙ row-turn routeGone _ (l .net) (c .before .before .before .before .args .p) (l .d) (l .inv .1), simp length-set (l .inv .2))
+    (omega arith, ap (λ k. set (l .net) k 255) (c .route-at .ensures .0) ∙ row-turn routeNil _ (l .net) (c .before .before .before .before .args .p) (l .d) (l .inv .1), simp length-set (l .inv .2))
 
 same-length : tie.Need-same-length Inv-loop μ-loop
 same-length c = omega arith
@@ -41,7 +41,7 @@ same-length c = omega arith
 returns : tie.Need-returns Inv-loop μ-loop
 returns c = let l = c .before .loop in
     let e : l .d ≡ c .before .before .before .args .n = omega arith in
-    l .inv .1 ∙ ap (inRow routeGone (c .before .before .before .args .net .now) (c .before .before .before .args .p)) e
+    l .inv .1 ∙ ap (inRow routeNil (c .before .before .before .args .net .now) (c .before .before .before .args .p)) e
 
 pub routes-from-spec : {M : Type 1} → statement M
 routes-from-spec =
@@ -50,7 +50,7 @@ routes-from-spec =
     Inv-loop
     μ-loop
     loop-holds
-    route-requires
+    route-at-requires
     slice-write-net
     add-d
     loop-less

@@ -5,18 +5,18 @@ use native.Mathlib.Omega.{arith}
 use borrow.Author.Tests.{not-true, not-false}
 use Rattle.protocol.specs.declared.Entry.{Entry}
 use Rattle.protocol.specs.Net.{Net, setEntry}
-use Rattle.protocol.specs.Entries.{unlisting, stayOrLeave}
+use Rattle.protocol.specs.Entries.{withoutChild, stayOrLeave}
 use Rattle.protocol.specs.Rules as rule
 use Rattle.protocol.specs.Shaped.{Shaped}
 use Rattle.net.specs.View.{view}
 use Rattle.net.specs.Encode.{bytesOf}
-use Rattle.net.proofs.Seen.{seen}
-use Rattle.act.proofs.Ends.{ends-3, ends-4, ends-0}
-use Rattle.act.proofs.InRange.{pair-in}
+use Rattle.action.proofs.Ends.{ends-3, ends-4, ends-0}
+use Rattle.action.proofs.InRange.{pair-in}
 use Rattle.protocol.specs.Rules.{Rule}
 use borrow.Author.Needs.{needs}
 use Rattle.leaves.proofs.drop_child.Statement.{statement}
 use Rattle.leaves.proofs.drop_child.Tie as tie
+use Rattle.net.proofs.Saved.{seen}
 
 abbrev N : tie.Start → Net
 N s = view (s .args .net .now)
@@ -67,14 +67,14 @@ root-of-requires c κs = (c .before .before .before .before .before .before .bef
 entry-of-requires : tie.Need-entry-of-requires
 entry-of-requires c κs = let w = in-range (c .before .before .before .before .before .before) in (c .before .before .before .before .before .before .before .before .before .before .pre, (w .0, w .1))
 
-unlisting-requires : tie.Need-unlisting-requires
-unlisting-requires c κs = let w = in-range (c .before .before .before .before .before .before .before) in omega (arith, w .2, c .before .before .before .before .before .before .before .before .before .before .before .pre .few)
+without-child-requires : tie.Need-without-child-requires
+without-child-requires c κs = let w = in-range (c .before .before .before .before .before .before .before) in omega (arith, w .2, c .before .before .before .before .before .before .before .before .before .before .before .pre .few)
 
 stay-or-leave-requires : tie.Need-stay-or-leave-requires
 stay-or-leave-requires c κs = search needs
 
-put-entry-requires : tie.Need-put-entry-requires
-put-entry-requires c κs = let w = in-range (c .before .before .before .before .before .before .before .before .before .before) in (c .before .before .before .before .before .before .before .before .before .before .before .before .before .before .pre, (w .0, w .1))
+set-entry-requires : tie.Need-set-entry-requires
+set-entry-requires c κs = let w = in-range (c .before .before .before .before .before .before .before .before .before .before) in (c .before .before .before .before .before .before .before .before .before .before .before .before .before .before .pre, (w .0, w .1))
 
 accepted-requires : tie.Need-accepted-requires
 accepted-requires c κs = search needs
@@ -87,8 +87,8 @@ unfolding rule.dropChild
 returns-3 c = let a = c .before .before .before .before .before .before .before .before .before .before .before .before .before .before .before .before .before .before .args in
     ends-0 _ _ (c .accepted .ensures)
     (record { operands = operands (c .before .before .before .before .before .before .before .before .before .before .before .before .before .before); enabled = sym (c .before .before .before .before .before .before .before .before .before .before .before .before .may-drop .ensures) ∙ not-false _ (c .before .before .before .before .before .before .before .before .before .before .before .if2 .left); clockRoom = refl; sendRoom = refl })
-    (c .before .before .before .put-entry .ensures ∙ ap (λ (e : Entry). bytesOf (setEntry (N (c .before .before .before .before .before .before .before .before .before .before .before .before .before .before .before .before .before .before)) (a .g) (a .p) e))
-    (c .before .before .before .before .stay-or-leave .ensures ∙ (λ i. stayOrLeave (c .before .before .before .before .before .before .before .before .before .root-of .ensures .0 i) (a .p) ((c .before .before .before .before .before .before .unlisting .ensures ∙ ap (λ (e : Entry). unlisting e (a .x)) (c .before .before .before .before .before .before .before .entry-of .ensures)) i))))
+    (c .before .before .before .set-entry .ensures ∙ ap (λ (e : Entry). bytesOf (setEntry (N (c .before .before .before .before .before .before .before .before .before .before .before .before .before .before .before .before .before .before)) (a .g) (a .p) e))
+    (c .before .before .before .before .stay-or-leave .ensures ∙ (λ i. stayOrLeave (c .before .before .before .before .before .before .before .before .before .root-of .ensures .0 i) (a .p) ((c .before .before .before .before .before .before .without-child .ensures ∙ ap (λ (e : Entry). withoutChild e (a .x)) (c .before .before .before .before .before .before .before .entry-of .ensures)) i))))
 
 pub drop-child-spec : {M : Type 1} → statement M
 drop-child-spec =
@@ -104,9 +104,9 @@ drop-child-spec =
     returns-2
     root-of-requires
     entry-of-requires
-    unlisting-requires
+    without-child-requires
     stay-or-leave-requires
-    put-entry-requires
+    set-entry-requires
     accepted-requires
     same-length-3
     returns-3)

@@ -10,13 +10,13 @@ use Rattle.protocol.specs.Rules as rule
 use Rattle.protocol.specs.Shaped.{Shaped}
 use Rattle.net.specs.View.{view}
 use Rattle.net.specs.Encode.{bytesOf}
-use Rattle.net.proofs.Seen.{seen}
-use Rattle.act.proofs.Ends.{ends-3, ends-0}
-use Rattle.act.proofs.InRange.{station-in}
+use Rattle.action.proofs.Ends.{ends-3, ends-0}
+use Rattle.action.proofs.InRange.{station-in}
 use Rattle.protocol.specs.Rules.{Rule}
 use borrow.Author.Needs.{needs}
 use Rattle.leaves.proofs.member.Statement.{statement}
 use Rattle.leaves.proofs.member.Tie as tie
+use Rattle.net.proofs.Saved.{seen}
 
 abbrev N : tie.Start → Net
 N s = view (s .args .net .now)
@@ -60,8 +60,8 @@ with-member-requires c κs = search needs
 stay-or-leave-requires : tie.Need-stay-or-leave-requires
 stay-or-leave-requires c κs = search needs
 
-put-entry-requires : tie.Need-put-entry-requires
-put-entry-requires c κs = (c .before .before .before .before .before .before .before .before .before .before .before .pre, in-range (c .before .before .before .before .before .before .before))
+set-entry-requires : tie.Need-set-entry-requires
+set-entry-requires c κs = (c .before .before .before .before .before .before .before .before .before .before .before .pre, in-range (c .before .before .before .before .before .before .before))
 
 accepted-requires : tie.Need-accepted-requires
 accepted-requires c κs = search needs
@@ -74,7 +74,7 @@ unfolding rule.member
 returns-2 c = let a = c .before .before .before .before .before .before .before .before .before .before .before .before .before .before .before .args in
     ends-0 _ _ (c .accepted .ensures)
     (record { operands = operands (c .before .before .before .before .before .before .before .before .before .before .before); enabled = refl; clockRoom = refl; sendRoom = refl })
-    (c .before .before .before .put-entry .ensures ∙ ap (λ (e : Entry). bytesOf (setEntry (N (c .before .before .before .before .before .before .before .before .before .before .before .before .before .before .before)) (a .g) (a .p) e))
+    (c .before .before .before .set-entry .ensures ∙ ap (λ (e : Entry). bytesOf (setEntry (N (c .before .before .before .before .before .before .before .before .before .before .before .before .before .before .before)) (a .g) (a .p) e))
     (c .before .before .before .before .stay-or-leave .ensures ∙ (λ i. stayOrLeave (c .before .before .before .before .before .before .before .before .before .root-of .ensures .0 i) (a .p) ((c .before .before .before .before .before .before .with-member .ensures ∙ ap (λ (e : Entry). withMember e (a .v)) (c .before .before .before .before .before .before .before .entry-of .ensures)) i))))
 
 pub member-spec : {M : Type 1} → statement M
@@ -89,7 +89,7 @@ member-spec =
     entry-of-requires
     with-member-requires
     stay-or-leave-requires
-    put-entry-requires
+    set-entry-requires
     accepted-requires
     same-length-2
     returns-2)

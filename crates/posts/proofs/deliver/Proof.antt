@@ -13,8 +13,7 @@ use Rattle.protocol.specs.Rules as rule
 use Rattle.protocol.specs.Shaped.{Shaped}
 use Rattle.net.specs.View.{view}
 use Rattle.net.specs.Encode.{bytesOf}
-use Rattle.net.proofs.Seen.{seen}
-use Rattle.act.proofs.Ends.{ends-3, ends-4, ends-6}
+use Rattle.action.proofs.Ends.{ends-3, ends-4, ends-6}
 use Rattle.protocol.proofs.Keeps.{near-cable}
 use Rattle.protocol.specs.Rules.{Rule}
 use Rattle.protocol.specs.Rules.{answered, heard}
@@ -22,6 +21,7 @@ use Rattle.posts.specs.Oldest.{Oldest}
 use borrow.Author.Needs.{needs}
 use Rattle.posts.proofs.deliver.Statement.{statement}
 use Rattle.posts.proofs.deliver.Tie as tie
+use Rattle.net.proofs.Saved.{seen}
 
 abbrev N : tie.Start → Net
 N s = view (s .args .net .now)
@@ -44,10 +44,10 @@ in-range : (x : tie.Else1) → (x .before .before .before .before .args .s < N (
 in-range x = let w = near-cable _ (H (x .before .before .before .before)) (x .before .before .before .before .args .s) (x .before .before .before .before .args .d) (between x) in (w .0, w .1)
 
 some : (y : tie.Else2) → 0 < length (N (y .before .before .before .before .before .before .before) .channel (y .before .before .before .before .before .before .before .args .s) (y .before .before .before .before .before .before .before .args .d))
-some y = subst (λ (n : ℕ). 0 < n) (y .before .waiting .ensures) (omega (arith, y .if2 .left))
+some y = subst (λ (n : ℕ). 0 < n) (y .before .in-channel .ensures) (omega (arith, y .if2 .left))
 
-ready : (y : tie.Else2) → Oldest (N (y .before .before .before .before .before .before .before)) (y .before .before .before .before .before .before .before .args .s) (y .before .before .before .before .before .before .before .args .d)
-ready y = record { between = between (y .before .before .before); some = some y }
+is-net : (y : tie.Else2) → Oldest (N (y .before .before .before .before .before .before .before)) (y .before .before .before .before .before .before .before .args .s) (y .before .before .before .before .before .before .before .args .d)
+is-net y = record { between = between (y .before .before .before); some = some y }
 
 enabled : (y : tie.Else2) → R (y .before .before .before .before .before .before .before) .enabled ≡ true
 unfolding rule.deliver
@@ -69,8 +69,8 @@ returns : tie.Need-returns
 unfolding rule.deliver
 returns c = ends-3 _ _ (c .refused .ensures) (sym (c .before .before .of-cable .ensures) ∙ not-true _ (c .before .if1 .taken))
 
-waiting-requires : tie.Need-waiting-requires
-waiting-requires c κs = (c .before .before .before .before .before .pre, in-range (c .before))
+in-channel-requires : tie.Need-in-channel-requires
+in-channel-requires c κs = (c .before .before .before .before .before .pre, in-range (c .before))
 
 refused-requires-2 : tie.Need-refused-requires-2
 refused-requires-2 c κs = search needs
@@ -80,7 +80,7 @@ same-length-2 c = search needs
 
 returns-2 : tie.Need-returns-2
 unfolding rule.deliver
-returns-2 c = ends-4 _ _ (c .refused2 .ensures) (operands (c .before .before .before .before)) (rw (sym (c .before .before .waiting .ensures) ∙ c .before .if2 .taken) refl)
+returns-2 c = ends-4 _ _ (c .refused2 .ensures) (operands (c .before .before .before .before)) (rw (sym (c .before .before .in-channel .ensures) ∙ c .before .if2 .taken) refl)
 
 oldest-requires : tie.Need-oldest-requires
 oldest-requires c κs = let w = in-range (c .before .before .before .before) in (c .before .before .before .before .before .before .before .before .pre, (w .0, w .1, some (c .before)))
@@ -100,7 +100,7 @@ returns-3 c = ends-6 _ _ (c .refused3 .ensures) (operands (c .before .before .be
     (rw (sym (kind (c .before .before .before .before .before .before)) ∙ c .before .before .before .before .if3 .taken) (sym (c .before .before .has-room .ensures) ∙ not-true _ (c .before .if4 .taken)))
 
 answer-requires : tie.Need-answer-requires
-answer-requires c κs = (c .before .before .before .before .before .before .before .before .before .before .before .before .before .before .before .pre, (ready (c .before .before .before .before .before .before .before .before), ((λ i. c .before .before .before .before .before .before .oldest .ensures i .group), sym (c .before .before .has-room .ensures) ∙ not-false _ (c .before .if4 .left))))
+answer-requires c κs = (c .before .before .before .before .before .before .before .before .before .before .before .before .before .before .before .pre, (is-net (c .before .before .before .before .before .before .before .before), ((λ i. c .before .before .before .before .before .before .oldest .ensures i .group), sym (c .before .before .has-room .ensures) ∙ not-false _ (c .before .if4 .left))))
 
 accepted-requires : tie.Need-accepted-requires
 accepted-requires c κs = search needs
@@ -114,7 +114,7 @@ returns-4 c = let a = c .before .before .before .before .before .before .before 
     (c .accepted .ensures) (c .before .before .before .answer .ensures ∙ (λ i. bytesOf (answered (takeAt (N (c .before .before .before .before .before .before .before .before .before .before .before .before .before .before .before .before .before .before .before)) (a .s) (a .d) 0) (c .before .before .before .before .before .before .before .before .before .before .oldest .ensures i .group) (a .s) (a .d))))
 
 hear-requires : tie.Need-hear-requires
-hear-requires c κs = (c .before .before .before .before .before .before .before .before .before .before .before .before .pre, (ready (c .before .before .before .before .before), c .before .before .before .oldest .ensures))
+hear-requires c κs = (c .before .before .before .before .before .before .before .before .before .before .before .before .pre, (is-net (c .before .before .before .before .before), c .before .before .before .oldest .ensures))
 
 accepted-requires-2 : tie.Need-accepted-requires-2
 accepted-requires-2 c κs = search needs
@@ -135,7 +135,7 @@ deliver-spec =
     refused-requires
     same-length
     returns
-    waiting-requires
+    in-channel-requires
     refused-requires-2
     same-length-2
     returns-2

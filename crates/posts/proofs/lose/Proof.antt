@@ -7,13 +7,13 @@ use Rattle.protocol.specs.Net.{Net, capacity}
 use Rattle.protocol.specs.Rules as rule
 use Rattle.protocol.specs.Shaped.{Shaped}
 use Rattle.net.specs.View.{view}
-use Rattle.net.proofs.Seen.{seen}
-use Rattle.act.proofs.Ends.{ends-3, ends-4, ends-0}
-use Rattle.act.proofs.InRange.{cable-in}
+use Rattle.action.proofs.Ends.{ends-3, ends-4, ends-0}
+use Rattle.action.proofs.InRange.{cable-in}
 use Rattle.protocol.specs.Rules.{Rule}
 use borrow.Author.Needs.{needs}
 use Rattle.posts.proofs.lose.Statement.{statement}
 use Rattle.posts.proofs.lose.Tie as tie
+use Rattle.net.proofs.Saved.{seen}
 
 abbrev N : tie.Start → Net
 N s = view (s .args .net .now)
@@ -45,8 +45,8 @@ returns : tie.Need-returns
 unfolding rule.lose
 returns c = ends-3 _ _ (c .refused .ensures) (sym (c .before .before .of-position .ensures) ∙ not-true _ (c .before .if1 .taken))
 
-waiting-requires : tie.Need-waiting-requires
-waiting-requires c κs = (c .before .before .before .before .before .pre, in-range (c .before))
+in-channel-requires : tie.Need-in-channel-requires
+in-channel-requires c κs = (c .before .before .before .before .before .pre, in-range (c .before))
 
 refused-requires-2 : tie.Need-refused-requires-2
 refused-requires-2 c κs = search needs
@@ -56,10 +56,10 @@ same-length-2 c = search needs
 
 returns-2 : tie.Need-returns-2
 unfolding rule.lose
-returns-2 c = ends-4 _ _ (c .refused2 .ensures) (operands (c .before .before .before .before)) (ap (ltb (c .before .before .before .before .before .before .before .before .args .i)) (sym (c .before .before .waiting .ensures)) ∙ le-ltb _ _ (c .before .if2 .taken))
+returns-2 c = ends-4 _ _ (c .refused2 .ensures) (operands (c .before .before .before .before)) (ap (ltb (c .before .before .before .before .before .before .before .before .args .i)) (sym (c .before .before .in-channel .ensures)) ∙ le-ltb _ _ (c .before .if2 .taken))
 
 take-at-requires : tie.Need-take-at-requires
-take-at-requires c κs = let w = in-range (c .before .before .before .before) in (c .before .before .before .before .before .before .before .before .pre, (w .0, w .1, subst (λ (n : ℕ). c .before .before .before .before .before .before .before .before .args .i < n) (c .before .before .waiting .ensures) (c .before .if2 .left)))
+take-at-requires c κs = let w = in-range (c .before .before .before .before) in (c .before .before .before .before .before .before .before .before .pre, (w .0, w .1, subst (λ (n : ℕ). c .before .before .before .before .before .before .before .before .args .i < n) (c .before .before .in-channel .ensures) (c .before .if2 .left)))
 
 accepted-requires : tie.Need-accepted-requires
 accepted-requires c κs = search needs
@@ -70,7 +70,7 @@ same-length-3 c = search needs
 returns-3 : tie.Need-returns-3
 unfolding rule.lose
 returns-3 c = ends-0 _ _ (c .accepted .ensures)
-    (record { operands = operands (c .before .before .before .before .before .before .before .before); enabled = ap (ltb (c .before .before .before .before .before .before .before .before .before .before .before .before .args .i)) (sym (c .before .before .before .before .before .before .waiting .ensures)) ∙ lt-ltb _ _ (c .before .before .before .before .before .if2 .left); clockRoom = refl; sendRoom = refl })
+    (record { operands = operands (c .before .before .before .before .before .before .before .before); enabled = ap (ltb (c .before .before .before .before .before .before .before .before .before .before .before .before .args .i)) (sym (c .before .before .before .before .before .before .in-channel .ensures)) ∙ lt-ltb _ _ (c .before .before .before .before .before .if2 .left); clockRoom = refl; sendRoom = refl })
     (c .before .before .before .take-at .ensures)
 
 pub lose-spec : {M : Type 1} → statement M
@@ -81,7 +81,7 @@ lose-spec =
     refused-requires
     same-length
     returns
-    waiting-requires
+    in-channel-requires
     refused-requires-2
     same-length-2
     returns-2

@@ -34,13 +34,19 @@ same-length : tie.Need-same-length
 same-length c = search needs
 
 returns : tie.Need-returns
-returns c = (word-reached _ _ _ _ _ (c .before .before .before .before .before .call .ensures .answer) _ _ (c .before .called .given .1), c .before .before .before .before .before .call .ensures .list)
+returns c =
+    let known = c .before .before .before in
+    let said = known .before .before .call .ensures in
+    (word-reached _ _ _ _ _ (said .answer) _ _ (c .before .called .given .1), said .list)
 
 same-length-2 : tie.Need-same-length-2
 same-length-2 c = search needs
 
 returns-2 : tie.Need-returns-2
-returns-2 c = (word-uncalled _ _ _ _ _ (c .before .before .before .before .before .call .ensures .answer) _ (c .before .called2 .given .1), c .before .before .before .before .before .call .ensures .list)
+returns-2 c =
+    let known = c .before .before .before in
+    let said = known .before .before .call .ensures in
+    (word-uncalled _ _ _ _ _ (said .answer) _ (c .before .called2 .given .1), said .list)
 
 pub kep-call-spec : {M : Type 1} → statement M
 kep-call-spec =

@@ -1,31 +1,51 @@
 use borrow.Author.Needs.{needs}
-use mathlib.Core.Path.{_≡_, refl, sym, ap, _∙_}
+use mathlib.Core.Path.{_≡_, refl, sym, ap, _∙_, subst}
+use mathlib.Core.List.{List}
 use Prim.Native.Nat.{ℕ, _/_, _≤_, _-_}
 use native.Mathlib.Omega.{arith}
 use lib.ListN.{length}
 use Rattle.protocol.specs.Runs.{after}
+use Rattle.protocol.specs.Shaped.{Shaped}
 use Rattle.net.specs.View.{view}
 use Rattle.net.specs.Encode.{bytesOf}
-use Rattle.net.proofs.Seen.{seen}
-use Rattle.net.proofs.Whole.{view-bytes}
-use Rattle.run.specs.Counts.{Few}
-use Rattle.run.proofs.Few.{few}
-use Rattle.run.proofs.Turns.{after-ready, turn-net, turn-tally}
+use Rattle.run.specs.inner.Counts.{CountsUpTo}
+use Rattle.run.proofs.CountsUpTo.{few}
+use Rattle.run.proofs.Turns.{after-is-net, turn-net, turn-tally}
 use Rattle.run.proofs.run_in.Statement.{statement}
 use Rattle.run.proofs.run_in.Tie as tie
+use Rattle.net.proofs.Saved.{seen, view-bytes}
 
 abbrev Inv-loop : tie.InvT-loop
-Inv-loop net₀ script n tally₀ i₀ net tally i = (i ≤ n) × (net ≡ bytesOf (after (view net₀) script i .net)) × (tally ≡ after (view net₀) script i .tally) × (length net ≡ length net₀)
+Inv-loop net₀ script n tally₀ i₀ net tally i =
+    let R = after (view net₀) script i in
+    (i ≤ n) × (net ≡ bytesOf (R .net)) × (tally ≡ R .tally) × (length net ≡ length net₀)
 
 abbrev μ-loop : tie.MeasureT-loop
 μ-loop net₀ script n tally₀ i₀ net tally i = n - i
 
-none-requires : tie.Need-none-requires Inv-loop μ-loop
-none-requires c κs = search needs
+-- the places, seen from those after them
+abbrev start : tie.At-loop Inv-loop μ-loop → tie.Start Inv-loop μ-loop
+start c = c .before .before .before .before
+
+abbrev turn : tie.After-shared-slice-known5 Inv-loop μ-loop → tie.At-loop Inv-loop μ-loop
+turn c = let arg = c .before .before .before .before in arg .before .before
+
+-- the net and the script that are lent
+abbrev net₀ : tie.At-loop Inv-loop μ-loop → List ℕ
+net₀ c = start c .args .net .now
+
+abbrev script : tie.At-loop Inv-loop μ-loop → List ℕ
+script c = start c .args .script .now
+
+shape : (c : tie.At-loop Inv-loop μ-loop) → Shaped (view (net₀ c))
+shape c = seen _ (start c .pre .0 .good)
+
+no-tally-requires : tie.Need-no-tally-requires Inv-loop μ-loop
+no-tally-requires c κs = search needs
 
 loop-holds : tie.Need-loop-holds Inv-loop μ-loop
 unfolding after
-loop-holds c = (omega arith, sym (view-bytes _ (c .before .before .before .pre .0 .good)), c .none .ensures, refl)
+loop-holds c = (omega arith, sym (view-bytes _ (c .before .before .before .pre .0 .good)), c .no-tally .ensures, refl)
 
 mul-step-in : tie.Need-mul-step-in Inv-loop μ-loop
 mul-step-in c = omega arith
@@ -61,11 +81,19 @@ shared-slice-read-step-in-4 : tie.Need-shared-slice-read-step-in-4 Inv-loop μ-l
 shared-slice-read-step-in-4 c = omega arith
 
 step-in-requires : tie.Need-step-in-requires Inv-loop μ-loop
-step-in-requires c κs = after-ready _ (seen _ (c .before .before .before .before .before .before .before .before .before .before .pre .0 .good)) (c .before .before .before .before .before .before .before .before .before .before .args .script .now) (c .before .before .before .before .before .before .loop .i) _ (c .before .before .before .before .before .before .loop .inv .1) .0
+step-in-requires c κs = let t = turn c in after-is-net _ (shape t) (script t) (t .loop .i) _ (t .loop .inv .1) .0
 
-count-requires : tie.Need-count-requires Inv-loop μ-loop
-count-requires c κs = let f : Few (c .before .before .before .before .before .before .before .before .before .loop .i) (c .before .before .before .before .before .before .before .before .before .loop .tally) = rw (c .before .before .before .before .before .before .before .before .before .loop .inv .2) (few (view (c .before .before .before .before .before .before .before .before .before .before .before .before .before .args .net .now)) (c .before .before .before .before .before .before .before .before .before .before .before .before .before .args .script .now) (c .before .before .before .before .before .before .before .before .before .loop .i)) in
-    record { accepted = omega (arith, f .accepted); refused = omega (arith, f .refused); sent = omega (arith, f .sent); delivered = omega (arith, f .delivered); lost = omega (arith, f .lost) }
+counted-requires : tie.Need-counted-requires Inv-loop μ-loop
+counted-requires c κs =
+    let t = turn (c .before .before .before) in
+    let f = subst (CountsUpTo (t .loop .i)) (sym (t .loop .inv .2)) (few (view (net₀ t)) (script t) (t .loop .i)) in
+    record {
+      accepted = omega (arith, f .accepted);
+      refused = omega (arith, f .refused);
+      sent = omega (arith, f .sent);
+      delivered = omega (arith, f .delivered);
+      lost = omega (arith, f .lost);
+    }
 
 add-i : tie.Need-add-i Inv-loop μ-loop
 add-i c = omega arith
@@ -74,17 +102,24 @@ loop-less : tie.Need-loop-less Inv-loop μ-loop
 loop-less c = omega arith
 
 loop-again : tie.Need-loop-again Inv-loop μ-loop
-loop-again c = let l = c .before .before .before .before .before .before .before .before .before .before .loop in
-    let H = seen _ (c .before .before .before .before .before .before .before .before .before .before .before .before .before .before .pre .0 .good) in
-    (omega arith, turn-net _ H (c .before .before .before .before .before .before .before .before .before .before .before .before .before .before .args .script .now) (l .i) (l .net) _ _ (l .inv .1) (c .before .before .before .step-in .ensures), turn-tally _ H (c .before .before .before .before .before .before .before .before .before .before .before .before .before .before .args .script .now) (l .i) (l .net) _ _ (l .tally) _ (l .inv .1) (l .inv .2) (c .before .before .before .step-in .ensures) (c .count .ensures), omega arith)
+loop-again c =
+    let stepped = c .before .before .before in
+    let t = turn (stepped .before) in
+    let l = t .loop in
+    let did = stepped .step-in .ensures in
+    let net = turn-net _ (shape t) (script t) (l .i) (l .net) _ _ (l .inv .1) did in
+    let tally = turn-tally _ (shape t) (script t) (l .i) (l .net) _ _ (l .inv .1) did (l .tally) _ (l .inv .2) (c .counted .ensures) in
+    (omega arith, net, tally, omega arith)
 
 same-length : tie.Need-same-length Inv-loop μ-loop
 same-length c = omega arith
 
 returns : tie.Need-returns Inv-loop μ-loop
-returns c = let l = c .before .loop in
-    let e : l .i ≡ length (c .before .before .before .before .before .args .script .now) / 4 = omega arith in
-    (l .inv .2 ∙ ap (λ (k : ℕ). after (view (c .before .before .before .before .before .args .net .now)) (c .before .before .before .before .before .args .script .now) k .tally) e, l .inv .1 ∙ ap (λ (k : ℕ). bytesOf (after (view (c .before .before .before .before .before .args .net .now)) (c .before .before .before .before .before .args .script .now) k .net)) e)
+returns c =
+    let t = c .before in
+    let all : t .loop .i ≡ length (script t) / 4 = omega arith in
+    let at = after (view (net₀ t)) (script t) in
+    (t .loop .inv .2 ∙ ap (λ (k : ℕ). at k .tally) all, t .loop .inv .1 ∙ ap (λ (k : ℕ). bytesOf (at k .net)) all)
 
 pub run-in-spec : {M : Type 1} → statement M
 run-in-spec =
@@ -92,7 +127,7 @@ run-in-spec =
     (tie.spec
     Inv-loop
     μ-loop
-    none-requires
+    no-tally-requires
     loop-holds
     mul-step-in
     shared-slice-read-step-in
@@ -106,7 +141,7 @@ run-in-spec =
     add-step-in-3
     shared-slice-read-step-in-4
     step-in-requires
-    count-requires
+    counted-requires
     add-i
     loop-less
     loop-again

@@ -3,8 +3,8 @@ use mathlib.Core.Bool.{true}
 use borrow.Author.Tests.{not-true, not-false}
 use Rattle.protocol.specs.Rules as rule
 use Rattle.net.specs.View.{view}
-use Rattle.act.proofs.Ends.{ends-3, ends-0}
-use Rattle.act.proofs.InRange.{path-in}
+use Rattle.action.proofs.Ends.{ends-3, ends-0}
+use Rattle.action.proofs.InRange.{path-in}
 use borrow.Author.Needs.{needs}
 use Rattle.settings.proofs.route.Statement.{statement}
 use Rattle.settings.proofs.route.Tie as tie
@@ -26,9 +26,9 @@ returns : tie.Need-returns
 unfolding rule.route
 returns c = ends-3 _ _ (c .refused .ensures) (sym (c .before .before .of-path .ensures) ∙ not-true _ (c .before .if1 .taken))
 
-put-route-requires : tie.Need-put-route-requires
+set-route-requires : tie.Need-set-route-requires
 unfolding rule.route
-put-route-requires c κs = let a = c .before .before .before .before .before .args in (c .before .before .before .before .before .pre, path-in (view (a .net .now)) (a .p) (a .d) (a .q) (operands (c .before)))
+set-route-requires c κs = let a = c .before .before .before .before .before .args in (c .before .before .before .before .before .pre, path-in (view (a .net .now)) (a .p) (a .d) (a .q) (operands (c .before)))
 
 accepted-requires : tie.Need-accepted-requires
 accepted-requires c κs = search needs
@@ -38,7 +38,7 @@ same-length-2 c = search needs
 
 returns-2 : tie.Need-returns-2
 unfolding rule.route
-returns-2 c = ends-0 _ _ (c .accepted .ensures) (record { operands = operands (c .before .before .before .before .before); enabled = refl; clockRoom = refl; sendRoom = refl }) (c .before .before .before .put-route .ensures)
+returns-2 c = ends-0 _ _ (c .accepted .ensures) (record { operands = operands (c .before .before .before .before .before); enabled = refl; clockRoom = refl; sendRoom = refl }) (c .before .before .before .set-route .ensures)
 
 pub route-spec : {M : Type 1} → statement M
 route-spec =
@@ -48,7 +48,7 @@ route-spec =
     refused-requires
     same-length
     returns
-    put-route-requires
+    set-route-requires
     accepted-requires
     same-length-2
     returns-2)

@@ -9,8 +9,8 @@ use Rattle.protocol.specs.Entries.{ticked}
 use Rattle.protocol.specs.Rules as rule
 use Rattle.net.specs.View.{view}
 use Rattle.net.specs.Encode.{bytesOf}
-use Rattle.act.proofs.Ends.{ends-3, ends-5, ends-0}
-use Rattle.act.proofs.InRange.{group-in}
+use Rattle.action.proofs.Ends.{ends-3, ends-5, ends-0}
+use Rattle.action.proofs.InRange.{group-in}
 use borrow.Author.Needs.{needs}
 use Rattle.settings.proofs.tick.Statement.{statement}
 use Rattle.settings.proofs.tick.Tie as tie
@@ -59,8 +59,8 @@ returns-2 c = ends-5 _ _ (c .refused2 .ensures) (operands (c .before .before .be
 ticked-requires : tie.Need-ticked-requires
 ticked-requires c κs = search needs
 
-put-entry-requires : tie.Need-put-entry-requires
-put-entry-requires c κs = (c .before .before .before .before .before .before .before .before .before .before .before .pre, (in-groups (c .before .before .before .before .before .before .before), c .before .before .before .before .before .root-of .ensures .1))
+set-entry-requires : tie.Need-set-entry-requires
+set-entry-requires c κs = (c .before .before .before .before .before .before .before .before .before .before .before .pre, (in-groups (c .before .before .before .before .before .before .before), c .before .before .before .before .before .root-of .ensures .1))
 
 accepted-requires : tie.Need-accepted-requires
 accepted-requires c κs = search needs
@@ -79,7 +79,7 @@ returns-3 c = let a = c .before .before .before .before .before .before .before 
       clockRoom = ap (λ (x : Entry). ltb (x .clock) 4294967295) (sym e) ∙ lt-ltb _ _ (c .before .before .before .before .before .before .if2 .left);
       sendRoom = refl;
     })
-    (c .before .before .before .put-entry .ensures ∙ (λ i. bytesOf (setEntry (view (a .net .now)) (a .g) (c .before .before .before .before .before .before .before .before .before .root-of .ensures .0 i) ((c .before .before .before .before .ticked .ensures ∙ ap ticked e) i))))
+    (c .before .before .before .set-entry .ensures ∙ (λ i. bytesOf (setEntry (view (a .net .now)) (a .g) (c .before .before .before .before .before .before .before .before .before .root-of .ensures .0 i) ((c .before .before .before .before .ticked .ensures ∙ ap ticked e) i))))
 
 pub tick-spec : {M : Type 1} → statement M
 tick-spec =
@@ -95,7 +95,7 @@ tick-spec =
     same-length-2
     returns-2
     ticked-requires
-    put-entry-requires
+    set-entry-requires
     accepted-requires
     same-length-3
     returns-3)

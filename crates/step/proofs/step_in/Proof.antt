@@ -3,7 +3,7 @@ use mathlib.Core.Logic.{⊎-elim}
 use Prim.Native.Nat.{ℕ}
 use Rattle.protocol.specs.Rules.{rules}
 use Rattle.protocol.specs.Steps.{rule}
-use Rattle.step.specs.Stepped.{Stepped}
+use Rattle.step.specs.Steps.{StepEnd}
 use Rattle.step.proofs.Ends.{takes, unknown, no-action}
 use borrow.Author.Needs.{needs}
 use Rattle.step.proofs.step_in.Statement.{statement}
@@ -45,7 +45,7 @@ same-length c = search needs
 returns : tie.Need-returns
 unfolding rule rules
 returns c = let a = c .before .before .before .before .before .before .args in
-    subst (λ (k : ℕ). Stepped (a .net .now) k (a .a) (a .b) (a .c) (c .before .before .tick .result) (c .before .before .tick .last .0)) (sym (c .before .before .before .before .match .keys1))
+    subst (λ (k : ℕ). StepEnd (a .net .now) k (a .a) (a .b) (a .c) (c .before .before .tick .result) (c .before .before .tick .last .0)) (sym (c .before .before .before .before .match .keys1))
     (takes (a .net .now) (c .before .before .before .before .before .before .pre) 1 (a .a) (a .b) (a .c) refl (c .before .before .tick .ensures))
 
 same-length-2 : tie.Need-same-length-2
@@ -54,7 +54,7 @@ same-length-2 c = search needs
 returns-2 : tie.Need-returns-2
 unfolding rule rules
 returns-2 c = let a = c .before .before .before .before .before .before .args in
-    subst (λ (k : ℕ). Stepped (a .net .now) k (a .a) (a .b) (a .c) (c .before .before .ask .result) (c .before .before .ask .last .0)) (sym (c .before .before .before .before .match .keys2))
+    subst (λ (k : ℕ). StepEnd (a .net .now) k (a .a) (a .b) (a .c) (c .before .before .ask .result) (c .before .before .ask .last .0)) (sym (c .before .before .before .before .match .keys2))
     (takes (a .net .now) (c .before .before .before .before .before .before .pre) 2 (a .a) (a .b) (a .c) refl (c .before .before .ask .ensures))
 
 same-length-3 : tie.Need-same-length-3
@@ -63,7 +63,7 @@ same-length-3 c = search needs
 returns-3 : tie.Need-returns-3
 unfolding rule rules
 returns-3 c = let a = c .before .before .before .before .before .before .args in
-    subst (λ (k : ℕ). Stepped (a .net .now) k (a .a) (a .b) (a .c) (c .before .before .refresh .result) (c .before .before .refresh .last .0)) (sym (c .before .before .before .before .match .keys3))
+    subst (λ (k : ℕ). StepEnd (a .net .now) k (a .a) (a .b) (a .c) (c .before .before .refresh .result) (c .before .before .refresh .last .0)) (sym (c .before .before .before .before .match .keys3))
     (takes (a .net .now) (c .before .before .before .before .before .before .pre) 3 (a .a) (a .b) (a .c) refl (c .before .before .refresh .ensures))
 
 same-length-4 : tie.Need-same-length-4
@@ -72,7 +72,7 @@ same-length-4 c = search needs
 returns-4 : tie.Need-returns-4
 unfolding rule rules
 returns-4 c = let a = c .before .before .before .before .before .before .args in
-    subst (λ (k : ℕ). Stepped (a .net .now) k (a .a) (a .b) (a .c) (c .before .before .deliver .result) (c .before .before .deliver .last .0)) (sym (c .before .before .before .before .match .keys4))
+    subst (λ (k : ℕ). StepEnd (a .net .now) k (a .a) (a .b) (a .c) (c .before .before .deliver .result) (c .before .before .deliver .last .0)) (sym (c .before .before .before .before .match .keys4))
     (takes (a .net .now) (c .before .before .before .before .before .before .pre) 4 (a .a) (a .b) (a .c) refl (c .before .before .deliver .ensures))
 
 same-length-5 : tie.Need-same-length-5
@@ -81,7 +81,7 @@ same-length-5 c = search needs
 returns-5 : tie.Need-returns-5
 unfolding rule rules
 returns-5 c = let a = c .before .before .before .before .before .before .args in
-    subst (λ (k : ℕ). Stepped (a .net .now) k (a .a) (a .b) (a .c) (c .before .before .lose .result) (c .before .before .lose .last .0)) (sym (c .before .before .before .before .match .keys5))
+    subst (λ (k : ℕ). StepEnd (a .net .now) k (a .a) (a .b) (a .c) (c .before .before .lose .result) (c .before .before .lose .last .0)) (sym (c .before .before .before .before .match .keys5))
     (takes (a .net .now) (c .before .before .before .before .before .before .pre) 5 (a .a) (a .b) (a .c) refl (c .before .before .lose .ensures))
 
 same-length-6 : tie.Need-same-length-6
@@ -90,7 +90,7 @@ same-length-6 c = search needs
 returns-6 : tie.Need-returns-6
 unfolding rule rules
 returns-6 c = let a = c .before .before .before .before .before .before .args in
-    subst (λ (k : ℕ). Stepped (a .net .now) k (a .a) (a .b) (a .c) (c .before .before .give-up .result) (c .before .before .give-up .last .0)) (sym (c .before .before .before .before .match .keys6))
+    subst (λ (k : ℕ). StepEnd (a .net .now) k (a .a) (a .b) (a .c) (c .before .before .give-up .result) (c .before .before .give-up .last .0)) (sym (c .before .before .before .before .match .keys6))
     (takes (a .net .now) (c .before .before .before .before .before .before .pre) 6 (a .a) (a .b) (a .c) refl (c .before .before .give-up .ensures))
 
 same-length-7 : tie.Need-same-length-7
@@ -99,7 +99,7 @@ same-length-7 c = search needs
 returns-7 : tie.Need-returns-7
 unfolding rule rules
 returns-7 c = let a = c .before .before .before .before .before .before .args in
-    subst (λ (k : ℕ). Stepped (a .net .now) k (a .a) (a .b) (a .c) (c .before .before .drop-child .result) (c .before .before .drop-child .last .0)) (sym (c .before .before .before .before .match .keys7))
+    subst (λ (k : ℕ). StepEnd (a .net .now) k (a .a) (a .b) (a .c) (c .before .before .drop-child .result) (c .before .before .drop-child .last .0)) (sym (c .before .before .before .before .match .keys7))
     (takes (a .net .now) (c .before .before .before .before .before .before .pre) 7 (a .a) (a .b) (a .c) refl (c .before .before .drop-child .ensures))
 
 same-length-8 : tie.Need-same-length-8
@@ -108,7 +108,7 @@ same-length-8 c = search needs
 returns-8 : tie.Need-returns-8
 unfolding rule rules
 returns-8 c = let a = c .before .before .before .before .before .before .args in
-    subst (λ (k : ℕ). Stepped (a .net .now) k (a .a) (a .b) (a .c) (c .before .before .member .result) (c .before .before .member .last .0)) (sym (c .before .before .before .before .match .keys8))
+    subst (λ (k : ℕ). StepEnd (a .net .now) k (a .a) (a .b) (a .c) (c .before .before .member .result) (c .before .before .member .last .0)) (sym (c .before .before .before .before .match .keys8))
     (takes (a .net .now) (c .before .before .before .before .before .before .pre) 8 (a .a) (a .b) (a .c) refl (c .before .before .member .ensures))
 
 same-length-9 : tie.Need-same-length-9
@@ -117,7 +117,7 @@ same-length-9 c = search needs
 returns-9 : tie.Need-returns-9
 unfolding rule rules
 returns-9 c = let a = c .before .before .before .before .before .before .args in
-    subst (λ (k : ℕ). Stepped (a .net .now) k (a .a) (a .b) (a .c) (c .before .before .route .result) (c .before .before .route .last .0)) (sym (c .before .before .before .before .match .keys9))
+    subst (λ (k : ℕ). StepEnd (a .net .now) k (a .a) (a .b) (a .c) (c .before .before .route .result) (c .before .before .route .last .0)) (sym (c .before .before .before .before .match .keys9))
     (takes (a .net .now) (c .before .before .before .before .before .before .pre) 9 (a .a) (a .b) (a .c) refl (c .before .before .route .ensures))
 
 returns-10 : tie.Need-returns-10

@@ -1,21 +1,21 @@
 use native.Mathlib.Omega.{arith}
-use mathlib.Core.Path.{_≡_, refl, _∙_}
-use Prim.Native.Nat.{_≤_, _+_, _-_, _*_}
+use mathlib.Core.Path.{_≡_}
+use Prim.Native.Nat.{_≤_, _-_, _*_}
 use lib.ListN.{length, getD}
-use Rattle.bits.specs.Parts.{Wrote}
-use Rattle.text.specs.Text.{each, hexByte, hex}
-use Rattle.text.proofs.Digits.{each-none, each-more}
+use Rattle.text.specs.Text.{row, each, hexByte, hex, WroteWithin}
+use Rattle.text.proofs.Puts.{within-none, row-more}
 use Rattle.text.proofs.put_hex.Statement.{statement}
 use Rattle.text.proofs.put_hex.Tie as tie
 
 abbrev Inv-loop : tie.InvT-loop
-Inv-loop out₀ at s n next₀ i₀ out next i = (i ≤ n) × Wrote out₀ out at next (each i (λ k. hexByte (getD s k 0))) × (next ≡ at + 2 * i) × (length out ≡ length out₀)
+Inv-loop out₀ at s n next₀ i₀ out next i = (i ≤ n) × WroteWithin (2 * i) out₀ out at next (each i (λ k. hexByte (getD s k 0)))
 
 abbrev μ-loop : tie.MeasureT-loop
 μ-loop out₀ at s n next₀ i₀ out next i = n - i
 
 loop-holds : tie.Need-loop-holds Inv-loop μ-loop
-loop-holds c = (omega arith, each-none _ _ _, omega arith, refl)
+unfolding row
+loop-holds c = (omega arith, within-none _ _ _)
 
 shared-slice-read-put-hex-byte : tie.Need-shared-slice-read-put-hex-byte Inv-loop μ-loop
 shared-slice-read-put-hex-byte c = omega arith
@@ -31,14 +31,14 @@ loop-less c = omega arith
 
 loop-again : tie.Need-loop-again Inv-loop μ-loop
 unfolding hexByte
-loop-again c = (omega arith, each-more _ _ (c .before .before .before .before .before .before .loop .inv .1) (c .before .before .put-hex-byte .ensures), omega (arith, c .before .before .put-hex-byte .ensures .next, c .before .before .before .before .before .before .loop .inv .2), c .before .before .put-hex-byte .kept .0 ∙ c .before .before .before .before .before .before .loop .inv .3)
+loop-again c = (omega arith, row-more _ _ (c .before .before .before .before .before .before .loop .inv .1) (c .before .before .put-hex-byte .ensures))
 
 same-length : tie.Need-same-length Inv-loop μ-loop
 same-length c = omega arith
 
 returns : tie.Need-returns Inv-loop μ-loop
 unfolding hex
-returns c = let n : c .before .loop .i ≡ length (c .before .before .before .before .args .s .now) = omega arith in (rw (← n) (c .before .loop .inv .1), omega (arith, c .before .loop .inv .2))
+returns c = let n : c .before .loop .i ≡ length (c .before .before .before .before .args .s .now) = omega arith in rw (← n) (c .before .loop .inv .1)
 
 pub put-hex-spec : {M : Type 1} → statement M
 put-hex-spec =

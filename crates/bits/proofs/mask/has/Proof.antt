@@ -9,14 +9,14 @@ use Rattle.bits.proofs.mask.has.Tie as tie
 wide-requires : tie.Need-wide-requires
 wide-requires c κs = search needs
 
-bit-requires : tie.Need-bit-requires
-bit-requires c κs = search needs
+has-at-requires : tie.Need-has-at-requires
+has-at-requires c κs = search needs
 
 returns : tie.Need-returns
-returns c = c .bit .ensures ∙ ap (mask.has _) (c .before .wide .ensures .0)
+returns c = c .has-at .ensures ∙ ap (mask.has _) (c .before .wide .ensures .0)
 
 returns-2 : tie.Need-returns-2
 returns-2 c = sym (has-beyond (c .before .args .m) 16 (c .before .args .j) (omega arith) (c .if1 .left))
 
 pub has-spec : {M : Type 1} → statement M
-has-spec = tie.close (tie.spec wide-requires bit-requires returns returns-2)
+has-spec = tie.close (tie.spec wide-requires has-at-requires returns returns-2)

@@ -1,67 +1,58 @@
 use mathlib.Core.Path.{refl, sym}
 use native.Mathlib.Omega.{arith}
-use Rattle.bits.proofs.Parts.{wrote-then}
 use Rattle.text.specs.Text.{text}
+use Rattle.text.proofs.Puts.{within-of, _then_}
 use Rattle.listing.specs.Lines.{groupLine}
-use Rattle.listing.proofs.Labels.{quoted, labelled}
-use borrow.Author.Needs.{needs}
 use Rattle.listing.proofs.lines.group_line.Statement.{statement}
 use Rattle.listing.proofs.lines.group_line.Tie as tie
 
+slice-aggregate-put-filled-one : tie.Need-slice-aggregate-put-filled-one
+slice-aggregate-put-filled-one c = refl
+
+put-filled-one-requires : tie.Need-put-filled-one-requires
+put-filled-one-requires c κs = omega arith
+
+name-of-requires : tie.Need-name-of-requires
+name-of-requires c κs = let p = c .before .before .before .before .before .before .before .before .pre in (p .0, p .1 .0)
+
+put-hex-requires : tie.Need-put-hex-requires
+put-hex-requires c κs = omega arith
+
 root-of-requires : tie.Need-root-of-requires
-root-of-requires c κs = search needs
+root-of-requires c κs = let p = c .before .before .before .before .before .before .before .before .before .before .before .before .pre in (p .0, p .1 .0)
 
-slice-aggregate-put-item : tie.Need-slice-aggregate-put-item
-slice-aggregate-put-item c = search needs
+slice-aggregate-put-filled-one-2 : tie.Need-slice-aggregate-put-filled-one-2
+slice-aggregate-put-filled-one-2 c = refl
 
-put-item-requires : tie.Need-put-item-requires
-put-item-requires c κs = search needs
+cast-put-filled-one : tie.Need-cast-put-filled-one
+cast-put-filled-one c = omega arith
 
-slice-aggregate-put : tie.Need-slice-aggregate-put
-slice-aggregate-put c = search needs
-
-put-requires : tie.Need-put-requires
-put-requires c κs = search needs
-
-put-name-requires : tie.Need-put-name-requires
-put-name-requires c κs = search needs
-
-slice-aggregate-put-item-2 : tie.Need-slice-aggregate-put-item-2
-slice-aggregate-put-item-2 c = search needs
-
-cast-put-item : tie.Need-cast-put-item
-cast-put-item c = search needs
-
-put-item-requires-2 : tie.Need-put-item-requires-2
-put-item-requires-2 c κs = search needs
-
-slice-aggregate-put-2 : tie.Need-slice-aggregate-put-2
-slice-aggregate-put-2 c = search needs
-
-put-requires-2 : tie.Need-put-requires-2
-put-requires-2 c κs = search needs
+put-filled-one-requires-2 : tie.Need-put-filled-one-requires-2
+put-filled-one-requires-2 c κs = omega arith
 
 same-length : tie.Need-same-length
-same-length c = search needs
+same-length c = omega arith
 
 returns : tie.Need-returns
-unfolding groupLine
-returns c = rw (sym (c .before .before .before .before .before .before .before .before .before .before .before .before .before .before .before .before .before .before .before .before .before .before .before .before .root-of .ensures .0)) ((wrote-then (wrote-then (wrote-then (wrote-then (labelled "group " _ _ (c .before .before .before .before .before .before .before .before .before .before .before .before .before .before .before .before .before .before .before .before .before .put-item .ensures .0) (unfold text in refl)) (quoted " name " _ (c .before .before .before .before .before .before .before .before .before .before .before .before .before .before .before .before .put .ensures) (unfold text in refl))) (c .before .before .before .before .before .before .before .before .before .before .before .before .put-name .ensures .0)) (labelled " root " _ _ (c .before .before .before .before .before .before .before .put-item2 .ensures .0) (unfold text in refl))) (quoted "\n" _ (c .before .before .put2 .ensures) (unfold text in refl))), omega (arith, c .before .before .put2 .ensures .next, c .before .before .put2 .kept .0, c .before .before .before .before .before .before .before .put-item2 .ensures .1, c .before .before .before .before .before .before .before .put-item2 .kept .0, c .before .before .before .before .before .before .before .before .before .before .before .before .put-name .ensures .1, c .before .before .before .before .before .before .before .before .before .before .before .before .put-name .kept .1 .1 .0, c .before .before .before .before .before .before .before .before .before .before .before .before .before .before .before .before .put .ensures .next, c .before .before .before .before .before .before .before .before .before .before .before .before .before .before .before .before .put .kept .0, c .before .before .before .before .before .before .before .before .before .before .before .before .before .before .before .before .before .before .before .before .before .put-item .ensures .1, c .before .before .before .before .before .before .before .before .before .before .before .before .before .before .before .before .before .before .before .before .before .put-item .kept .0, c .before .before .before .before .before .before .before .before .before .before .before .before .before .before .before .before .before .before .before .before .before .before .before .before .before .before .before .pre))
+unfolding groupLine text
+returns c =
+    let y = c .before .before .before .before .before in
+    let x = y .before .before .before in
+    let n = x .before .name-of .ensures in
+    let W = x .before .before .before .before .before .put-filled-one .ensures then x .put-hex .ensures then c .before .before .put-filled-one2 .ensures in
+    rw (sym (n .0), sym (y .root-of .ensures .0)) (within-of (W .wrote) (omega (arith, W .within, n .1)))
 
 pub group-line-spec : {M : Type 1} → statement M
 group-line-spec =
     tie.close
     (tie.spec
+    slice-aggregate-put-filled-one
+    put-filled-one-requires
+    name-of-requires
+    put-hex-requires
     root-of-requires
-    slice-aggregate-put-item
-    put-item-requires
-    slice-aggregate-put
-    put-requires
-    put-name-requires
-    slice-aggregate-put-item-2
-    cast-put-item
-    put-item-requires-2
-    slice-aggregate-put-2
-    put-requires-2
+    slice-aggregate-put-filled-one-2
+    cast-put-filled-one
+    put-filled-one-requires-2
     same-length
     returns)

@@ -1,83 +1,58 @@
-use mathlib.Core.Path.{refl, sym}
 use native.Mathlib.Omega.{arith}
-use Rattle.bits.proofs.Parts.{wrote-then}
+use mathlib.Core.Path.{refl, sym}
 use Rattle.text.specs.Text.{text}
+use Rattle.text.proofs.Puts.{_then_}
 use Rattle.listing.specs.Lines.{stationLine}
-use Rattle.listing.proofs.Labels.{quoted, labelled}
-use borrow.Author.Needs.{needs}
 use Rattle.listing.proofs.lines.station_line.Statement.{statement}
 use Rattle.listing.proofs.lines.station_line.Tie as tie
 
 entry-of-requires : tie.Need-entry-of-requires
-entry-of-requires c κs = search needs
+entry-of-requires c κs = let p = c .before .before .pre in (p .0, (p .1 .0, p .1 .1))
 
-put-number-requires : tie.Need-put-number-requires
-put-number-requires c κs = search needs
+slice-aggregate-put-filled : tie.Need-slice-aggregate-put-filled
+slice-aggregate-put-filled c = refl
 
-slice-aggregate-put : tie.Need-slice-aggregate-put
-slice-aggregate-put c = search needs
+cast-t15 : tie.Need-cast-t15
+cast-t15 c = omega arith
 
-put-requires : tie.Need-put-requires
-put-requires c κs = search needs
+cast-t16 : tie.Need-cast-t16
+cast-t16 c = omega arith
 
-put-station-requires : tie.Need-put-station-requires
-put-station-requires c κs = search needs
+slice-aggregate-put-filled-2 : tie.Need-slice-aggregate-put-filled-2
+slice-aggregate-put-filled-2 c = refl
 
-slice-aggregate-put-item : tie.Need-slice-aggregate-put-item
-slice-aggregate-put-item c = search needs
+put-filled-requires : tie.Need-put-filled-requires
+put-filled-requires c κs = omega arith
 
-put-item-requires : tie.Need-put-item-requires
-put-item-requires c κs = search needs
+put-mask-or-dash-requires : tie.Need-put-mask-or-dash-requires
+put-mask-or-dash-requires c κs = omega arith
 
-slice-aggregate-put-item-2 : tie.Need-slice-aggregate-put-item-2
-slice-aggregate-put-item-2 c = search needs
-
-cast-put-item : tie.Need-cast-put-item
-cast-put-item c = search needs
-
-put-item-requires-2 : tie.Need-put-item-requires-2
-put-item-requires-2 c κs = omega (arith, c .before .before .before .before .before .put-item .ensures .1, c .before .before .before .before .before .put-item .kept .0, c .before .before .before .before .before .before .before .before .before .before .put-station .ensures .1, c .before .before .before .before .before .before .before .before .before .before .put-station .kept .0, c .before .before .before .before .before .before .before .before .before .before .before .before .before .before .put .ensures .next, c .before .before .before .before .before .before .before .before .before .before .before .before .before .before .put .kept .0, c .before .before .before .before .before .before .before .before .before .before .before .before .before .before .before .before .before .before .before .put-number .ensures .1, c .before .before .before .before .before .before .before .before .before .before .before .before .before .before .before .before .before .before .before .put-number .kept .0, c .before .before .before .before .before .before .before .before .before .before .before .before .before .before .before .before .before .before .before .before .before .before .before .before .pre)
-
-slice-aggregate-put-2 : tie.Need-slice-aggregate-put-2
-slice-aggregate-put-2 c = search needs
-
-put-requires-2 : tie.Need-put-requires-2
-put-requires-2 c κs = omega (arith, c .before .before .before .before .put-item2 .ensures .1, c .before .before .before .before .put-item2 .kept .0, c .before .before .before .before .before .before .before .before .before .before .put-item .ensures .1, c .before .before .before .before .before .before .before .before .before .before .put-item .kept .0, c .before .before .before .before .before .before .before .before .before .before .before .before .before .before .before .put-station .ensures .1, c .before .before .before .before .before .before .before .before .before .before .before .before .before .before .before .put-station .kept .0, c .before .before .before .before .before .before .before .before .before .before .before .before .before .before .before .before .before .before .before .put .ensures .next, c .before .before .before .before .before .before .before .before .before .before .before .before .before .before .before .before .before .before .before .put .kept .0, c .before .before .before .before .before .before .before .before .before .before .before .before .before .before .before .before .before .before .before .before .before .before .before .before .put-number .ensures .1, c .before .before .before .before .before .before .before .before .before .before .before .before .before .before .before .before .before .before .before .before .before .before .before .before .put-number .kept .0, c .before .before .before .before .before .before .before .before .before .before .before .before .before .before .before .before .before .before .before .before .before .before .before .before .before .before .before .before .before .pre)
-
-put-children-requires : tie.Need-put-children-requires
-put-children-requires c κs = omega (arith, c .before .before .before .put2 .ensures .next, c .before .before .before .put2 .kept .0, c .before .before .before .before .before .before .before .before .put-item2 .ensures .1, c .before .before .before .before .before .before .before .before .put-item2 .kept .0, c .before .before .before .before .before .before .before .before .before .before .before .before .before .before .put-item .ensures .1, c .before .before .before .before .before .before .before .before .before .before .before .before .before .before .put-item .kept .0, c .before .before .before .before .before .before .before .before .before .before .before .before .before .before .before .before .before .before .before .put-station .ensures .1, c .before .before .before .before .before .before .before .before .before .before .before .before .before .before .before .before .before .before .before .put-station .kept .0, c .before .before .before .before .before .before .before .before .before .before .before .before .before .before .before .before .before .before .before .before .before .before .before .put .ensures .next, c .before .before .before .before .before .before .before .before .before .before .before .before .before .before .before .before .before .before .before .before .before .before .before .put .kept .0, c .before .before .before .before .before .before .before .before .before .before .before .before .before .before .before .before .before .before .before .before .before .before .before .before .before .before .before .before .put-number .ensures .1, c .before .before .before .before .before .before .before .before .before .before .before .before .before .before .before .before .before .before .before .before .before .before .before .before .before .before .before .before .put-number .kept .0, c .before .before .before .before .before .before .before .before .before .before .before .before .before .before .before .before .before .before .before .before .before .before .before .before .before .before .before .before .before .before .before .before .before .pre)
-
-slice-aggregate-put-3 : tie.Need-slice-aggregate-put-3
-slice-aggregate-put-3 c = search needs
-
-put-requires-3 : tie.Need-put-requires-3
-put-requires-3 c κs = omega (arith, c .before .before .before .before .put-children .ensures .1, c .before .before .before .before .put-children .kept .0, c .before .before .before .before .before .before .before .before .put2 .ensures .next, c .before .before .before .before .before .before .before .before .put2 .kept .0, c .before .before .before .before .before .before .before .before .before .before .before .before .before .put-item2 .ensures .1, c .before .before .before .before .before .before .before .before .before .before .before .before .before .put-item2 .kept .0, c .before .before .before .before .before .before .before .before .before .before .before .before .before .before .before .before .before .before .before .put-item .ensures .1, c .before .before .before .before .before .before .before .before .before .before .before .before .before .before .before .before .before .before .before .put-item .kept .0, c .before .before .before .before .before .before .before .before .before .before .before .before .before .before .before .before .before .before .before .before .before .before .before .before .put-station .ensures .1, c .before .before .before .before .before .before .before .before .before .before .before .before .before .before .before .before .before .before .before .before .before .before .before .before .put-station .kept .0, c .before .before .before .before .before .before .before .before .before .before .before .before .before .before .before .before .before .before .before .before .before .before .before .before .before .before .before .before .put .ensures .next, c .before .before .before .before .before .before .before .before .before .before .before .before .before .before .before .before .before .before .before .before .before .before .before .before .before .before .before .before .put .kept .0, c .before .before .before .before .before .before .before .before .before .before .before .before .before .before .before .before .before .before .before .before .before .before .before .before .before .before .before .before .before .before .before .before .before .put-number .ensures .1, c .before .before .before .before .before .before .before .before .before .before .before .before .before .before .before .before .before .before .before .before .before .before .before .before .before .before .before .before .before .before .before .before .before .put-number .kept .0, c .before .before .before .before .before .before .before .before .before .before .before .before .before .before .before .before .before .before .before .before .before .before .before .before .before .before .before .before .before .before .before .before .before .before .before .before .before .before .pre)
+put-byte-requires : tie.Need-put-byte-requires
+put-byte-requires c κs = omega arith
 
 same-length : tie.Need-same-length
-same-length c = omega (arith, c .before .before .put3 .ensures .next, c .before .before .put3 .kept .0, c .before .before .before .before .before .before .before .put-children .ensures .1, c .before .before .before .before .before .before .before .put-children .kept .0, c .before .before .before .before .before .before .before .before .before .before .before .put2 .ensures .next, c .before .before .before .before .before .before .before .before .before .before .before .put2 .kept .0, c .before .before .before .before .before .before .before .before .before .before .before .before .before .before .before .before .put-item2 .ensures .1, c .before .before .before .before .before .before .before .before .before .before .before .before .before .before .before .before .put-item2 .kept .0, c .before .before .before .before .before .before .before .before .before .before .before .before .before .before .before .before .before .before .before .before .before .before .put-item .ensures .1, c .before .before .before .before .before .before .before .before .before .before .before .before .before .before .before .before .before .before .before .before .before .before .put-item .kept .0, c .before .before .before .before .before .before .before .before .before .before .before .before .before .before .before .before .before .before .before .before .before .before .before .before .before .before .before .put-station .ensures .1, c .before .before .before .before .before .before .before .before .before .before .before .before .before .before .before .before .before .before .before .before .before .before .before .before .before .before .before .put-station .kept .0, c .before .before .before .before .before .before .before .before .before .before .before .before .before .before .before .before .before .before .before .before .before .before .before .before .before .before .before .before .before .before .before .put .ensures .next, c .before .before .before .before .before .before .before .before .before .before .before .before .before .before .before .before .before .before .before .before .before .before .before .before .before .before .before .before .before .before .before .put .kept .0, c .before .before .before .before .before .before .before .before .before .before .before .before .before .before .before .before .before .before .before .before .before .before .before .before .before .before .before .before .before .before .before .before .before .before .before .before .put-number .ensures .1, c .before .before .before .before .before .before .before .before .before .before .before .before .before .before .before .before .before .before .before .before .before .before .before .before .before .before .before .before .before .before .before .before .before .before .before .before .put-number .kept .0, c .before .before .before .before .before .before .before .before .before .before .before .before .before .before .before .before .before .before .before .before .before .before .before .before .before .before .before .before .before .before .before .before .before .before .before .before .before .before .before .before .before .pre)
+same-length c = omega arith
 
 returns : tie.Need-returns
-unfolding stationLine
-returns c = rw (sym (c .before .before .before .before .before .before .before .before .before .before .before .before .before .before .before .before .before .before .before .before .before .before .before .before .before .before .before .before .before .before .before .before .before .before .before .before .before .before .entry-of .ensures)) ((wrote-then (wrote-then (wrote-then (wrote-then (wrote-then (wrote-then (wrote-then (c .before .before .before .before .before .before .before .before .before .before .before .before .before .before .before .before .before .before .before .before .before .before .before .before .before .before .before .before .before .before .before .before .before .before .before .before .put-number .ensures .0) (quoted " parent " _ (c .before .before .before .before .before .before .before .before .before .before .before .before .before .before .before .before .before .before .before .before .before .before .before .before .before .before .before .before .before .before .before .put .ensures) (unfold text in refl))) (c .before .before .before .before .before .before .before .before .before .before .before .before .before .before .before .before .before .before .before .before .before .before .before .before .before .before .before .put-station .ensures .0)) (labelled " clock " _ _ (c .before .before .before .before .before .before .before .before .before .before .before .before .before .before .before .before .before .before .before .before .before .before .put-item .ensures .0) (unfold text in refl))) (labelled " member " _ _ (c .before .before .before .before .before .before .before .before .before .before .before .before .before .before .before .before .put-item2 .ensures .0) (unfold text in refl))) (quoted " children " _ (c .before .before .before .before .before .before .before .before .before .before .before .put2 .ensures) (unfold text in refl))) (c .before .before .before .before .before .before .before .put-children .ensures .0)) (quoted "\n" _ (c .before .before .put3 .ensures) (unfold text in refl))), omega (arith, c .before .before .put3 .ensures .next, c .before .before .put3 .kept .0, c .before .before .before .before .before .before .before .put-children .ensures .1, c .before .before .before .before .before .before .before .put-children .kept .0, c .before .before .before .before .before .before .before .before .before .before .before .put2 .ensures .next, c .before .before .before .before .before .before .before .before .before .before .before .put2 .kept .0, c .before .before .before .before .before .before .before .before .before .before .before .before .before .before .before .before .put-item2 .ensures .1, c .before .before .before .before .before .before .before .before .before .before .before .before .before .before .before .before .put-item2 .kept .0, c .before .before .before .before .before .before .before .before .before .before .before .before .before .before .before .before .before .before .before .before .before .before .put-item .ensures .1, c .before .before .before .before .before .before .before .before .before .before .before .before .before .before .before .before .before .before .before .before .before .before .put-item .kept .0, c .before .before .before .before .before .before .before .before .before .before .before .before .before .before .before .before .before .before .before .before .before .before .before .before .before .before .before .put-station .ensures .1, c .before .before .before .before .before .before .before .before .before .before .before .before .before .before .before .before .before .before .before .before .before .before .before .before .before .before .before .put-station .kept .0, c .before .before .before .before .before .before .before .before .before .before .before .before .before .before .before .before .before .before .before .before .before .before .before .before .before .before .before .before .before .before .before .put .ensures .next, c .before .before .before .before .before .before .before .before .before .before .before .before .before .before .before .before .before .before .before .before .before .before .before .before .before .before .before .before .before .before .before .put .kept .0, c .before .before .before .before .before .before .before .before .before .before .before .before .before .before .before .before .before .before .before .before .before .before .before .before .before .before .before .before .before .before .before .before .before .before .before .before .put-number .ensures .1, c .before .before .before .before .before .before .before .before .before .before .before .before .before .before .before .before .before .before .before .before .before .before .before .before .before .before .before .before .before .before .before .before .before .before .before .before .put-number .kept .0, c .before .before .before .before .before .before .before .before .before .before .before .before .before .before .before .before .before .before .before .before .before .before .before .before .before .before .before .before .before .before .before .before .before .before .before .before .before .before .before .before .before .pre))
+unfolding stationLine text
+returns c =
+    let z = c .before .before in
+    let y = z .before .before .before .before in
+    let x = y .before .before .before .before in
+    rw (sym (x .before .before .before .before .before .before .entry-of .ensures))
+    (x .put-filled .ensures then y .put-mask-or-dash .ensures then z .put-byte .ensures)
 
 pub station-line-spec : {M : Type 1} → statement M
 station-line-spec =
     tie.close
     (tie.spec
     entry-of-requires
-    put-number-requires
-    slice-aggregate-put
-    put-requires
-    put-station-requires
-    slice-aggregate-put-item
-    put-item-requires
-    slice-aggregate-put-item-2
-    cast-put-item
-    put-item-requires-2
-    slice-aggregate-put-2
-    put-requires-2
-    put-children-requires
-    slice-aggregate-put-3
-    put-requires-3
+    slice-aggregate-put-filled
+    cast-t15
+    cast-t16
+    slice-aggregate-put-filled-2
+    put-filled-requires
+    put-mask-or-dash-requires
+    put-byte-requires
     same-length
     returns)

@@ -1,21 +1,30 @@
+use mathlib.Core.Path.{_≡_, ap, ap₂, _∙_}
+use mathlib.Core.Bool.{Bool, _&&_}
+use Prim.Native.Nat.{ℕ, _+_}
+use lib.Dec.{ltb, leb}
+use Rattle.layout.specs.Layout.{nameLength}
+use Rattle.layout.specs.Bounded.{zeros}
 use borrow.Author.Tests.{lt-leb, le-leb}
 use Rattle.plan.specs.Planned.{groupShaped}
 use borrow.Author.Needs.{needs}
 use Rattle.plan.proofs.groups.group_shaped.Statement.{statement}
 use Rattle.plan.proofs.groups.group_shaped.Tie as tie
 
-group-requires : tie.Need-group-requires
-group-requires c κs = search needs
+long : (x : tie.After-wide) → let a = x .before .before .before .args in x .wide .result ≡ nameLength (a .s .now) (a .g)
+long x = x .wide .ensures .0 ∙ x .before .name-length .ensures
 
-shared-slice-read-wide : tie.Need-shared-slice-read-wide
-shared-slice-read-wide c = search needs
+name-length-requires : tie.Need-name-length-requires
+name-length-requires c κs = search needs
 
 wide-requires : tie.Need-wide-requires
 wide-requires c κs = search needs
 
 returns : tie.Need-returns
 unfolding groupShaped
-returns c = simp (← c .before .wide .ensures .0, ← c .before .before .before .group .ensures .0) (simp (lt-leb _ _ (c .if1 .taken)))
+returns c = simp (← long (c .before), lt-leb _ _ (c .if1 .taken))
+
+group-at-requires : tie.Need-group-at-requires
+group-at-requires c κs = search needs
 
 add-all-zero : tie.Need-add-all-zero
 add-all-zero c = search needs
@@ -29,32 +38,34 @@ add-all-zero-3 c = search needs
 all-zero-requires : tie.Need-all-zero-requires
 all-zero-requires c κs = search needs
 
-add-wide : tie.Need-add-wide
-add-wide c = search needs
-
-shared-slice-read-wide-2 : tie.Need-shared-slice-read-wide-2
-shared-slice-read-wide-2 c = search needs
+root-requires : tie.Need-root-requires
+root-requires c κs = search needs
 
 wide-requires-2 : tie.Need-wide-requires-2
 wide-requires-2 c κs = search needs
 
 returns-2 : tie.Need-returns-2
 unfolding groupShaped
-returns-2 c = simp (← c .before .before .before .before .before .before .group .ensures .0, ← c .before .before .before .before .wide .ensures .0, le-leb _ _ (c .before .before .before .if1 .left)) (cc)
+returns-2 c = let z = c .before .before in
+    let x = z .before .before .before in
+    let a = x .before .before .before .args in
+    simp (← long x, le-leb _ _ (z .before .before .if1 .left))
+    (ap₂ (λ (padding below : Bool). leb 1 (x .wide .result) && padding && below)
+    (z .all-zero .ensures ∙ ap (λ (at : ℕ). zeros (a .s .now) (at + 1 + x .wide .result) (at + 17)) (z .before .group-at .ensures .0))
+    (ap (λ (r : ℕ). ltb r (a .n)) (c .wide2 .ensures .0 ∙ c .before .root .ensures)))
 
 pub group-shaped-spec : {M : Type 1} → statement M
 group-shaped-spec =
     tie.close
     (tie.spec
-    group-requires
-    shared-slice-read-wide
+    name-length-requires
     wide-requires
     returns
+    group-at-requires
     add-all-zero
     add-all-zero-2
     add-all-zero-3
     all-zero-requires
-    add-wide
-    shared-slice-read-wide-2
+    root-requires
     wide-requires-2
     returns-2)

@@ -3,7 +3,7 @@ use Prim.Native.Nat.{_≤_, _-_}
 use native.Mathlib.Omega.{arith}
 use Rattle.layout.specs.Bounded.{allBelow}
 use Rattle.layout.proofs.Bounded.{all-none, all-more, all-done}
-use Rattle.plan.specs.Planned.{newName, distinct}
+use Rattle.plan.specs.Planned.{newName, namesDistinct}
 use Rattle.plan.proofs.groups.names_distinct.Statement.{statement}
 use Rattle.plan.proofs.groups.names_distinct.Tie as tie
 
@@ -29,7 +29,7 @@ loop-again : tie.Need-loop-again Inv-loop μ-loop
 loop-again c = (omega arith, all-more _ (c .before .before .loop .inv .1) (c .new-name .ensures))
 
 returns : tie.Need-returns Inv-loop μ-loop
-unfolding distinct
+unfolding namesDistinct
 returns c = all-done _ (c .before .loop .inv .0) (c .loop-test .left) (c .before .loop .inv .1)
 
 pub names-distinct-spec : {M : Type 1} → statement M

@@ -3,11 +3,11 @@ use borrow.Author.Needs.{needs}
 use Rattle.plan.proofs.groups.same_names.Statement.{statement}
 use Rattle.plan.proofs.groups.same_names.Tie as tie
 
-group-requires : tie.Need-group-requires
-group-requires c κs = search needs
+group-at-requires : tie.Need-group-at-requires
+group-at-requires c κs = search needs
 
-group-requires-2 : tie.Need-group-requires-2
-group-requires-2 c κs = search needs
+group-at-requires-2 : tie.Need-group-at-requires-2
+group-at-requires-2 c κs = search needs
 
 all-same-requires : tie.Need-all-same-requires
 all-same-requires c κs = search needs
@@ -17,4 +17,4 @@ unfolding sameNames
 returns c = cc
 
 pub same-names-spec : {M : Type 1} → statement M
-same-names-spec = tie.close (tie.spec group-requires group-requires-2 all-same-requires returns)
+same-names-spec = tie.close (tie.spec group-at-requires group-at-requires-2 all-same-requires returns)

@@ -1,4 +1,3 @@
-use mathlib.Core.Path.{_∙_}
 use Rattle.run.proofs.Tallies.{five-counts}
 use borrow.Author.Needs.{needs}
 use Rattle.run.proofs.tally.put.Statement.{statement}
@@ -23,7 +22,19 @@ same-length : tie.Need-same-length
 same-length c = search needs
 
 returns : tie.Need-returns
-returns c = c .before .before .put325 .ensures ∙ rw (c .before .before .before .before .before .before .put324 .ensures, c .before .before .before .before .before .before .before .before .before .before .put323 .ensures, c .before .before .before .before .before .before .before .before .before .before .before .before .before .before .put322 .ensures, c .before .before .before .before .before .before .before .before .before .before .before .before .before .before .before .before .before .before .put32 .ensures) (five-counts _ _ (c .before .before .before .before .before .before .before .before .before .before .before .before .before .before .before .before .before .before .before .before .before .pre))
+returns c =
+    let lost = c .before .before in
+    let delivered = lost .before .before .before .before in
+    let sent = delivered .before .before .before .before in
+    let refused = sent .before .before .before .before in
+    let accepted = refused .before .before .before .before in
+    let start = accepted .before .before .before in
+    five-counts _ _ _ _ _ _ (start .args .t) (start .pre)
+    (accepted .put32 .ensures)
+    (refused .put322 .ensures)
+    (sent .put323 .ensures)
+    (delivered .put324 .ensures)
+    (lost .put325 .ensures)
 
 pub put-spec : {M : Type 1} → statement M
 put-spec =

@@ -1,21 +1,28 @@
+use native.Mathlib.Omega.{arith}
 use mathlib.Core.Path.{_≡_}
 use Prim.Native.Nat.{_≤_, _-_}
-use native.Mathlib.Omega.{arith}
+use native.Mathlib.Nat.{one-mul}
+use Rattle.layout.specs.Layout.{neighbours, routeAt}
 use Rattle.layout.specs.Bounded.{allBelow}
 use Rattle.layout.proofs.Bounded.{all-none, all-more, table-done}
-use native.Mathlib.Nat.{one-mul}
-use Rattle.shape.specs.Shape.{routed}
+use Rattle.shape.specs.Shape.{routeShaped}
 use Rattle.shape.proofs.routes.route_row.Statement.{statement}
 use Rattle.shape.proofs.routes.route_row.Tie as tie
 
 abbrev Inv-loop : tie.InvT-loop
-Inv-loop s n p ok₀ d₀ ok d = (d ≤ n) × (ok ≡ allBelow d (routed s p))
+Inv-loop s n p m ok₀ d₀ ok d = (d ≤ n) × (ok ≡ allBelow d (λ k. routeShaped (neighbours s p) p k s (routeAt p k)))
 
 abbrev μ-loop : tie.MeasureT-loop
-μ-loop s n p ok₀ d₀ ok d = n - d
+μ-loop s n p m ok₀ d₀ ok d = n - d
+
+neighbours-requires : tie.Need-neighbours-requires Inv-loop μ-loop
+neighbours-requires c κs = omega arith
 
 loop-holds : tie.Need-loop-holds Inv-loop μ-loop
 loop-holds c = (omega arith, all-none _)
+
+route-at-requires : tie.Need-route-at-requires Inv-loop μ-loop
+route-at-requires c κs = omega arith
 
 route-shaped-requires : tie.Need-route-shaped-requires Inv-loop μ-loop
 route-shaped-requires c κs = omega arith
@@ -27,25 +34,19 @@ loop-less : tie.Need-loop-less Inv-loop μ-loop
 loop-less c = omega arith
 
 loop-again : tie.Need-loop-again Inv-loop μ-loop
-loop-again c = (omega arith, all-more _ (c .before .before .loop .inv .1) (c .route-shaped .ensures))
+loop-again c = (omega arith, all-more _ (c .before .before .before .loop .inv .1) (cc))
 
-mul-all-zero : tie.Need-mul-all-zero Inv-loop μ-loop
-mul-all-zero c = omega arith
+mul-row : tie.Need-mul-row Inv-loop μ-loop
+mul-row c = omega arith
+
+add-row : tie.Need-add-row Inv-loop μ-loop
+add-row c = omega arith
 
 add-all-zero : tie.Need-add-all-zero Inv-loop μ-loop
 add-all-zero c = omega arith
 
 add-all-zero-2 : tie.Need-add-all-zero-2 Inv-loop μ-loop
 add-all-zero-2 c = omega arith
-
-mul-all-zero-2 : tie.Need-mul-all-zero-2 Inv-loop μ-loop
-mul-all-zero-2 c = omega arith
-
-add-all-zero-3 : tie.Need-add-all-zero-3 Inv-loop μ-loop
-add-all-zero-3 c = omega arith
-
-add-all-zero-4 : tie.Need-add-all-zero-4 Inv-loop μ-loop
-add-all-zero-4 c = omega arith
 
 all-zero-requires : tie.Need-all-zero-requires Inv-loop μ-loop
 all-zero-requires c κs = omega arith
@@ -59,16 +60,16 @@ route-row-spec =
     (tie.spec
     Inv-loop
     μ-loop
+    neighbours-requires
     loop-holds
+    route-at-requires
     route-shaped-requires
     add-d
     loop-less
     loop-again
-    mul-all-zero
+    mul-row
+    add-row
     add-all-zero
     add-all-zero-2
-    mul-all-zero-2
-    add-all-zero-3
-    add-all-zero-4
     all-zero-requires
     returns)

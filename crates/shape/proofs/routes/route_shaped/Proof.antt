@@ -1,25 +1,28 @@
-use Rattle.shape.specs.Shape.{routed}
+use mathlib.Core.Path.{ap}
+use mathlib.Core.Bool.{Bool, _&&_}
+use lib.Dec.{eqb}
+use Rattle.protocol.specs.Net.{nil}
+use Rattle.layout.specs.Layout.{byte}
+use Rattle.layout.specs.Bounded.{_implies_}
+use Rattle.shape.specs.Shape.{routeShaped}
 use borrow.Author.Needs.{needs}
 use Rattle.shape.proofs.routes.route_shaped.Statement.{statement}
 use Rattle.shape.proofs.routes.route_shaped.Tie as tie
 
-route-requires : tie.Need-route-requires
-route-requires c κs = search needs
-
-shared-slice-read-r : tie.Need-shared-slice-read-r
-shared-slice-read-r c = search needs
-
-neighbours-of-requires : tie.Need-neighbours-of-requires
-neighbours-of-requires c κs = search needs
+shared-slice-read-nil-or : tie.Need-shared-slice-read-nil-or
+shared-slice-read-nil-or c = search needs
 
 nil-or-requires : tie.Need-nil-or-requires
 nil-or-requires c κs = search needs
 
+shared-slice-read-result : tie.Need-shared-slice-read-result
+shared-slice-read-result c = search needs
+
 returns : tie.Need-returns
-unfolding routed
-returns c = cc
+unfolding routeShaped
+returns c = let a = c .before .before .before .before .args in
+    ap (λ (near : Bool). near && (eqb (a .p) (a .d) implies eqb (byte (a .s .now) (a .at)) nil)) (c .before .nil-or .ensures)
 
 pub route-shaped-spec : {M : Type 1} → statement M
 route-shaped-spec =
-    tie.close
-    (tie.spec route-requires shared-slice-read-r neighbours-of-requires nil-or-requires returns)
+    tie.close (tie.spec shared-slice-read-nil-or nil-or-requires shared-slice-read-result returns)

@@ -1,0 +1,91 @@
+-- What the functions of this crate read and leave, over lists. `at` is what the code computed for an offset.
+use mathlib.Core.Path.{_≡_, refl, sym, ap, subst, _∙_}
+use mathlib.Core.Bool.{true}
+use mathlib.Core.List.{List, [], _∷_}
+use Prim.Native.Nat.{ℕ, _+_, _-_, _*_, _≤_, _<_}
+use native.Mathlib.Nat.{add-zero, add-sub-cancel-left}
+use native.Mathlib.Omega.{arith}
+use lib.ListN.{length}
+use Rattle.bits.specs.Parts.{part, splice}
+use Rattle.bits.proofs.Parts.{lent, back, length-part, getD-part, part-lent, part-part, put-whole, lent-back}
+use Rattle.protocol.specs.declared.Entry.{Entry}
+use Rattle.protocol.specs.declared.Message.{Message}
+use Rattle.protocol.specs.Net.{Net, capacity, longestName, setEntry, setChannel, setRoute}
+use Rattle.protocol.specs.Shaped.{Shaped}
+use Rattle.channel.specs.Messages.{messagesOf, channelBytes}
+use Rattle.channel.specs.inner.Channels.{IsChannel}
+use Rattle.channel.proofs.Messages.{length-channel}
+use Rattle.layout.specs.Layout.{byte, netLength, stations, groups, groupAt, nameLength, routeAt, stretchAt, channelAt}
+use Rattle.plan.specs.Planned.{ofVersion1}
+use Rattle.plan.proofs.Plans.{name-at}
+use Rattle.shape.specs.Shape.{shaped}
+use Rattle.shape.proofs.Nets.{long, plan-pass}
+use Rattle.net.specs.View.{view}
+use Rattle.net.specs.Encode.{entryBytes, bytesOf}
+use Rattle.net.proofs.Records.{length-entryBytes}
+use Rattle.access.specs.inner.Nets.{IsNet}
+use Rattle.forms.specs.Plans.{nameOf, planIn}
+use Rattle.forms.proofs.plan.Shown.{plan-name}
+use Rattle.net.proofs.Saved.{view-channel, seen, channel-is, view-bytes, bytes-entry, bytes-channel, bytes-route, stands}
+
+pub is-net : (l : List ℕ) → shaped l ≡ true → IsNet l
+unfolding view planIn
+is-net l s = let H = seen l s in record { good = s; long = long l s; stationsAt = refl; groupsAt = refl; few = H .plan .few; fewGroups = H .plan .fewGroups }
+
+-- bytes that are those of a well-shaped net
+pub is-net-of : (N : Net) (l : List ℕ) → Shaped N → l ≡ bytesOf N → (IsNet l) × (view l ≡ N)
+is-net-of N l H e = let w = stands N l H e in (is-net l (w .0), w .1)
+
+module _ (l : List ℕ) (r : IsNet l) where
+  here : bytesOf (view l) ≡ l
+  here = view-bytes l (r .good)
+
+  -- the channel from s to d, as it is lent: its width is the code's `at + 57 - at`
+  module _ (s d at : ℕ) (hs : s < view l .stations) (hd : d < view l .stations) (e : at ≡ channelAt s d) where
+    lent-is : lent at (at + 57 - at) l ≡ part 57 l (channelAt s d)
+    lent-is = rw add-sub-cancel-left (part-lent 57 l at (omega (arith, r .long, r .few)) ∙ ap (part 57 l) e)
+
+    pub channel-lent : IsChannel (lent at (at + 57 - at) l) × (messagesOf (lent at (at + 57 - at) l) ≡ view l .channel s d)
+    channel-lent =
+        let below : (s < stations l) × (d < stations l) = (omega (arith, r .stationsAt), omega (arith, r .stationsAt)) in (
+          subst IsChannel (sym lent-is) (channel-is l (r .good) s d (below .0) (below .1)),
+          ap messagesOf lent-is ∙ sym (view-channel l s d (below .0) (below .1)),
+        )
+
+    -- and as it comes back
+    pub channel-back : (ms : List Message) → length ms ≤ capacity → back at (at + 57 - at) l (channelBytes ms) ≡ bytesOf (setChannel (view l) s d ms)
+    channel-back ms most =
+        rw add-sub-cancel-left
+        (put-whole at 57 l (channelBytes ms) (length-channel ms most) (omega (arith, r .long, r .few))
+        ∙ (λ i. splice (sym here i) (e i) (channelBytes ms))
+        ∙ sym (bytes-channel (view l) (r .few) (r .fewGroups) s d ms most hs hd))
+
+  -- the name of group g, as it is lent
+  module _ (g at n : ℕ) (h : g < view l .groups) (i : at ≡ groupAt g + 1) (e : n ≡ nameLength l g) where
+    name-few : n ≤ longestName
+    name-few = rw e (name-at l (ofVersion1 netLength) (plan-pass l (r .good)) g (omega (arith, r .groupsAt)) .1)
+
+    name-lent : lent at (at + n - at) l ≡ view l .name g
+    unfolding view nameOf
+    name-lent =
+        let hg : g < groups l = omega (arith, r .groupsAt) in
+        rw add-sub-cancel-left
+        (part-lent n l at (omega (arith, name-few, r .long, r .fewGroups)) ∙ ap (part n l) i
+        ∙ sym (plan-name l g hg
+        ∙ ap (λ (k : ℕ). lent 1 k (part 17 l (groupAt g))) (getD-part 17 l (groupAt g) 0 (omega arith) ∙ ap (byte l) (add-zero (groupAt g)) ∙ sym e)
+        ∙ part-lent n (part 17 l (groupAt g)) 1 (omega (arith, name-few, length-part 17 l (groupAt g)))
+        ∙ part-part n 17 l (groupAt g) 1 (omega (arith, name-few))))
+
+    pub name-is : (lent at (at + n - at) l ≡ view l .name g) × (length (lent at (at + n - at) l) ≤ longestName)
+    name-is = (name-lent, rw name-lent (seen l (r .good) .plan .named g h .1))
+
+  -- the stretch of group g comes back with the entry of station p written
+  pub entry-back : (g p a : ℕ) (e : Entry) → a ≡ stretchAt g → g < view l .groups → p < view l .stations
+      → back a (a + 192 - a) l (splice (lent a (a + 192 - a) l) (12 * p) (entryBytes e)) ≡ bytesOf (setEntry (view l) g p e)
+  entry-back g p a e i hg hp =
+      lent-back a (a + 192 - a) l (12 * p) (entryBytes e) (omega (arith, length-entryBytes e, r .few))
+      ∙ (λ j. splice (sym here j) (i j + 12 * p) (entryBytes e))
+      ∙ sym (bytes-entry (view l) (r .few) (r .fewGroups) g p e hg hp)
+
+  pub route-back : (p d at q : ℕ) → at ≡ routeAt p d → p < view l .stations → d < view l .stations → splice l at (q ∷ []) ≡ bytesOf (setRoute (view l) p d q)
+  route-back p d at q i hp hd = (λ j. splice (sym here j) (i j) (q ∷ [])) ∙ sym (bytes-route (view l) (r .few) (r .fewGroups) p d q hp hd)

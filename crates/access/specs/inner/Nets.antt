@@ -1,0 +1,19 @@
+-- Bytes that are a net's: what every function that reads or changes one asks.
+use mathlib.Core.Path.{_≡_}
+use mathlib.Core.Bool.{true}
+use mathlib.Core.List.{List}
+use Prim.Native.Nat.{ℕ, _≤_}
+use lib.ListN.{length}
+use Rattle.protocol.specs.Net.{mostStations, mostGroups}
+use Rattle.layout.specs.Layout.{netLength, stations, groups}
+use Rattle.shape.specs.Shape.{shaped}
+use Rattle.net.specs.View.{view}
+
+-- the first field says it all; the others follow from it, and are here for the callers' arithmetic
+pub record IsNet (l : List ℕ) : Type 0 where
+  pub good : shaped l ≡ true
+  pub long : length l ≡ netLength
+  pub stationsAt : view l .stations ≡ stations l
+  pub groupsAt : view l .groups ≡ groups l
+  pub few : view l .stations ≤ mostStations
+  pub fewGroups : view l .groups ≤ mostGroups

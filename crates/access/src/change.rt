@@ -1,0 +1,76 @@
+// One thing of a net changed in its bytes.
+use bits::number::put16;
+use bits::number::put32;
+use bits::number::wide;
+use layout::place::CHANNEL_SIZE;
+use layout::place::ENTRY_SIZE;
+use layout::place::STRETCH_SIZE;
+use layout::place::channel_at;
+use layout::place::route_at;
+use layout::place::stretch_at;
+use protocol::Entry;
+use protocol::Message;
+ghost use mathlib.Core.Path.{_≡_};
+ghost use Prim.Native.Nat.{_*_, _<_};
+ghost use lib.ListN.{length};
+ghost use Rattle.bits.specs.Parts.{splice};
+ghost use Rattle.protocol.specs.Net.{Net, capacity, setEntry, setRoute, send, takeAt, mostStations};
+ghost use Rattle.layout.specs.Layout.{entrySize, stretchSize};
+ghost use Rattle.net.specs.View.{view};
+ghost use Rattle.net.specs.Encode.{entryBytes, bytesOf};
+ghost use Rattle.access.specs.inner.Nets.{IsNet};
+
+// The entry of station p, written to the stretch of one group.
+pub fn write_entry(stretch: &mut [u8], p: u8, e: Entry)
+    requires { ⌜ (length (now stretch) ≡ stretchSize) × (p < mostStations) ⌝ }
+    ensures { λ _. ⌜ now (stretch .exit) ≡ splice (now (stretch .entry)) (entrySize * p) (entryBytes e) ⌝ }
+{
+    let at = ENTRY_SIZE * wide(p);
+    stretch[at] = e.parent;
+    stretch[at + 1] = e.tentative;
+    stretch[at + 2] = e.member;
+    stretch[at + 3] = 0;
+    put32(stretch, at + 4, e.clock);
+    put16(stretch, at + 8, e.children);
+    put16(stretch, at + 10, e.waiting);
+}
+
+// Another entry of station p in group g: only the part that starts at the group's entries is lent on.
+pub fn set_entry(net: &mut [u8], g: u8, p: u8, e: Entry)
+    requires { ⌜ IsNet (now net) ⌝ }
+    requires { ⌜ (g < view (now net) .groups) × (p < view (now net) .stations) ⌝ }
+    ensures { λ _. ⌜ now (net .exit) ≡ bytesOf (setEntry (view (now (net .entry))) g p e) ⌝ }
+{
+    let a = stretch_at(wide(g));
+    write_entry(&mut net[a..a + STRETCH_SIZE], p, e);
+}
+
+// Another route from p towards d.
+pub fn set_route(net: &mut [u8], p: u8, d: u8, q: u8)
+    requires { ⌜ IsNet (now net) ⌝ }
+    requires { ⌜ (p < view (now net) .stations) × (d < view (now net) .stations) ⌝ }
+    ensures { λ _. ⌜ now (net .exit) ≡ bytesOf (setRoute (view (now (net .entry))) p d q) ⌝ }
+{
+    let at = route_at(wide(p), wide(d));
+    net[at] = q;
+}
+
+// The message at position i from s to d is taken out.
+pub fn take_at(net: &mut [u8], s: u8, d: u8, i: u8)
+    requires { ⌜ IsNet (now net) ⌝ }
+    requires { ⌜ (s < view (now net) .stations) × (d < view (now net) .stations) × (i < length (view (now net) .channel s d)) ⌝ }
+    ensures { λ _. ⌜ now (net .exit) ≡ bytesOf (takeAt (view (now (net .entry))) s d i) ⌝ }
+{
+    let at = channel_at(wide(s), wide(d));
+    channel::remove_at(&mut net[at..at + CHANNEL_SIZE], wide(i));
+}
+
+// A message goes out from s to d.
+pub fn send(net: &mut [u8], s: u8, d: u8, m: Message)
+    requires { ⌜ IsNet (now net) ⌝ }
+    requires { ⌜ (s < view (now net) .stations) × (d < view (now net) .stations) × (length (view (now net) .channel s d) < capacity) ⌝ }
+    ensures { λ _. ⌜ now (net .exit) ≡ bytesOf (send (view (now (net .entry))) s d m) ⌝ }
+{
+    let at = channel_at(wide(s), wide(d));
+    channel::push(&mut net[at..at + CHANNEL_SIZE], m);
+}

@@ -1,2 +1,0 @@
--- What an action answers, and the bytes that it leaves.
-pub mod Did

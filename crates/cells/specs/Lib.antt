@@ -1,2 +1,0 @@
--- What reading and changing a net's bytes asks of them.
-pub mod Ready

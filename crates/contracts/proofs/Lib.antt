@@ -1,0 +1,5 @@
+-- Each public contract settles its result and every lent byte; each refusal is given in its stated case only, and changes nothing.
+pub mod Determined
+pub mod Given
+pub mod Unchanged
+pub mod Exact

@@ -1,0 +1,165 @@
+// What the actions ask of one entry or message, and what they make of it, by value.
+use protocol::Entry;
+use protocol::Message;
+ghost use mathlib.Core.Path.{_≡_};
+ghost use mathlib.Core.Bool.{not, _&&_};
+ghost use Prim.Native.Nat.{_<_};
+ghost use lib.Dec.{eqb};
+ghost use Rattle.bits.specs.Masks as mask;
+ghost use Rattle.protocol.specs.Entries as rule;
+
+const NIL: u8 = 255;
+
+fn joins(e: Entry) -> bool
+    ensures { λ r. ⌜ r ≡ rule.joins e ⌝ }
+{
+    (e.member == 1) | !(e.children == 0)
+}
+
+fn connected(root: u8, p: u8, e: Entry) -> bool
+    ensures { λ r. ⌜ r ≡ rule.connected root p e ⌝ }
+{
+    (p == root) | !(e.parent == NIL)
+}
+
+// Whether station p may ask q, its route's neighbour.
+pub fn may_ask(root: u8, p: u8, q: u8, e: Entry) -> bool
+    ensures { λ r. ⌜ r ≡ (not (eqb p root) && rule.joins e && not (eqb q 255) && not (mask.has (e .waiting) q)) ⌝ }
+{
+    !(p == root) & joins(e) & !(q == NIL) & !bits::mask::has(e.waiting, q)
+}
+
+// Whether the station may ask its parent.
+pub fn may_refresh(e: Entry) -> bool
+    ensures { λ r. ⌜ r ≡ (not (eqb (e .parent) 255) && not (mask.has (e .waiting) (e .parent))) ⌝ }
+{
+    !(e.parent == NIL) & !bits::mask::has(e.waiting, e.parent)
+}
+
+pub fn ticked(mut e: Entry) -> Entry
+    requires { ⌜ e .clock < 4294967295 ⌝ }
+    ensures { λ r. ⌜ r ≡ rule.ticked e ⌝ }
+{
+    e.clock = e.clock + 1;
+    e
+}
+
+pub fn waits_on(mut e: Entry, q: u8) -> Entry
+    requires { ⌜ q < 16 ⌝ }
+    ensures { λ r. ⌜ r ≡ rule.waitsOn e q ⌝ }
+{
+    e.waiting = bits::mask::with(e.waiting, q);
+    e
+}
+
+pub fn stops_waiting(mut e: Entry, q: u8) -> Entry
+    requires { ⌜ q < 16 ⌝ }
+    ensures { λ r. ⌜ r ≡ rule.stopsWaiting e q ⌝ }
+{
+    e.waiting = bits::mask::without(e.waiting, q);
+    e
+}
+
+pub fn asking(mut e: Entry, q: u8) -> Entry
+    requires { ⌜ q < 16 ⌝ }
+    ensures { λ r. ⌜ r ≡ rule.asking e q ⌝ }
+{
+    e.tentative = q;
+    e.waiting = bits::mask::with(e.waiting, q);
+    e
+}
+
+pub fn with_child(mut e: Entry, s: u8) -> Entry
+    requires { ⌜ s < 16 ⌝ }
+    ensures { λ r. ⌜ r ≡ rule.withChild e s ⌝ }
+{
+    e.children = bits::mask::with(e.children, s);
+    e
+}
+
+pub fn without_child(mut e: Entry, x: u8) -> Entry
+    requires { ⌜ x < 16 ⌝ }
+    ensures { λ r. ⌜ r ≡ rule.withoutChild e x ⌝ }
+{
+    e.children = bits::mask::without(e.children, x);
+    e
+}
+
+pub fn with_member(mut e: Entry, v: u8) -> Entry
+    ensures { λ r. ⌜ r ≡ rule.withMember e v ⌝ }
+{
+    e.member = v;
+    e
+}
+
+fn leave(mut e: Entry) -> Entry
+    ensures { λ r. ⌜ r ≡ rule.leave e ⌝ }
+{
+    e.parent = NIL;
+    e.tentative = NIL;
+    e
+}
+
+// A station that is not the root leaves if it does not join.
+pub fn stay_or_leave(root: u8, p: u8, e: Entry) -> Entry
+    ensures { λ r. ⌜ r ≡ rule.stayOrLeave root p e ⌝ }
+{
+    let stays = (p == root) | joins(e);
+    if stays { e } else { leave(e) }
+}
+
+pub fn request_of(g: u8) -> Message
+    ensures { λ r. ⌜ r ≡ rule.requestOf g ⌝ }
+{
+    Message {
+        kind: 1,
+        group: g,
+        connected: 0,
+        clock: 0,
+    }
+}
+
+fn bit(b: bool) -> u8
+    ensures { λ r. ⌜ r ≡ rule.bit b ⌝ }
+{
+    if b { 1 } else { 0 }
+}
+
+pub fn reply_of(g: u8, root: u8, p: u8, e: Entry) -> Message
+    ensures { λ r. ⌜ r ≡ rule.replyOf g root p e ⌝ }
+{
+    Message {
+        kind: 2,
+        group: g,
+        connected: bit(connected(root, p, e)),
+        clock: e.clock,
+    }
+}
+
+// The test of a reply from s.
+fn adopts(e: Entry, s: u8, m: Message) -> bool
+    ensures { λ r. ⌜ r ≡ rule.adopts e s m ⌝ }
+{
+    (e.tentative == s) & (m.connected == 1) & (e.clock < m.clock)
+}
+
+fn adopting(mut e: Entry, s: u8, m: Message) -> Entry
+    ensures { λ r. ⌜ r ≡ rule.adopting e s m ⌝ }
+{
+    e.parent = s;
+    e.clock = m.clock;
+    e
+}
+
+// A reply from s is heard: the station waits on s no longer, and adopts it if the test passes.
+pub fn hearing(e: Entry, s: u8, m: Message) -> Entry
+    requires { ⌜ s < 16 ⌝ }
+    ensures { λ r. ⌜ r ≡ rule.hearing e s m ⌝ }
+{
+    let f = stops_waiting(e, s);
+    if adopts(e, s, m) {
+        adopting(f, s, m)
+    } else {
+        f
+    }
+}

@@ -1,0 +1,4 @@
+-- The examples in bytes.
+pub mod Tells
+pub mod Worked
+pub mod Words

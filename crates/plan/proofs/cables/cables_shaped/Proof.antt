@@ -1,0 +1,57 @@
+use mathlib.Core.Path.{_≡_}
+use Prim.Native.Nat.{_≤_, _-_}
+use native.Mathlib.Omega.{arith}
+use Rattle.layout.specs.Bounded.{allBelow}
+use Rattle.layout.proofs.Bounded.{all-none, all-more, table-done}
+use Rattle.plan.specs.Planned.{stationCabled}
+use Rattle.plan.proofs.cables.cables_shaped.Statement.{statement}
+use Rattle.plan.proofs.cables.cables_shaped.Tie as tie
+
+abbrev Inv-loop : tie.InvT-loop
+Inv-loop s n ok₀ p₀ ok p = (p ≤ n) × (ok ≡ allBelow p (stationCabled s n))
+
+abbrev μ-loop : tie.MeasureT-loop
+μ-loop s n ok₀ p₀ ok p = n - p
+
+loop-holds : tie.Need-loop-holds Inv-loop μ-loop
+loop-holds c = (omega arith, all-none _)
+
+station-cabled-requires : tie.Need-station-cabled-requires Inv-loop μ-loop
+station-cabled-requires c κs = omega arith
+
+add-p : tie.Need-add-p Inv-loop μ-loop
+add-p c = omega arith
+
+loop-less : tie.Need-loop-less Inv-loop μ-loop
+loop-less c = omega arith
+
+loop-again : tie.Need-loop-again Inv-loop μ-loop
+loop-again c = (omega arith, all-more _ (c .before .before .loop .inv .1) (c .station-cabled .ensures))
+
+mul-all-zero : tie.Need-mul-all-zero Inv-loop μ-loop
+mul-all-zero c = omega arith
+
+add-all-zero : tie.Need-add-all-zero Inv-loop μ-loop
+add-all-zero c = omega arith
+
+all-zero-requires : tie.Need-all-zero-requires Inv-loop μ-loop
+all-zero-requires c κs = omega arith
+
+returns : tie.Need-returns Inv-loop μ-loop
+returns c = table-done _ _ _ _ _ _ (c .before .before .loop .inv .0) (c .before .loop-test .left) (c .before .before .loop .inv .1) (c .all-zero .ensures)
+
+pub cables-shaped-spec : {M : Type 1} → statement M
+cables-shaped-spec =
+    tie.close
+    (tie.spec
+    Inv-loop
+    μ-loop
+    loop-holds
+    station-cabled-requires
+    add-p
+    loop-less
+    loop-again
+    mul-all-zero
+    add-all-zero
+    all-zero-requires
+    returns)

@@ -1,0 +1,3 @@
+-- Laws of functions changed at one place, and of messages counted.
+pub mod Maps
+pub mod Messages

@@ -1,0 +1,5 @@
+-- What holds of every step: by its rule, of parents, of what it leaves alone, and of the messages that it counts.
+pub mod Steps
+pub mod Kept
+pub mod Aparts
+pub mod Counts

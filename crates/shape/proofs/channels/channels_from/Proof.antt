@@ -1,0 +1,78 @@
+use native.Mathlib.Omega.{arith}
+use mathlib.Core.Path.{_≡_}
+use Prim.Native.Nat.{_≤_, _-_}
+use Rattle.layout.specs.Layout.{neighbours, channelAt}
+use Rattle.layout.specs.Bounded.{allBelow}
+use Rattle.layout.proofs.Bounded.{all-none, all-more, table-done}
+use Rattle.shape.specs.Shape.{channelShaped}
+use Rattle.shape.proofs.channels.channels_from.Statement.{statement}
+use Rattle.shape.proofs.channels.channels_from.Tie as tie
+
+abbrev Inv-loop : tie.InvT-loop
+Inv-loop s n g p m ok₀ d₀ ok d = (d ≤ n) × (ok ≡ allBelow d (λ k. channelShaped (neighbours s p) g k s (channelAt p k)))
+
+abbrev μ-loop : tie.MeasureT-loop
+μ-loop s n g p m ok₀ d₀ ok d = n - d
+
+neighbours-requires : tie.Need-neighbours-requires Inv-loop μ-loop
+neighbours-requires c κs = omega arith
+
+loop-holds : tie.Need-loop-holds Inv-loop μ-loop
+loop-holds c = (omega arith, all-none _)
+
+channel-at-requires : tie.Need-channel-at-requires Inv-loop μ-loop
+channel-at-requires c κs = omega arith
+
+channel-shaped-requires : tie.Need-channel-shaped-requires Inv-loop μ-loop
+channel-shaped-requires c κs = omega arith
+
+add-d : tie.Need-add-d Inv-loop μ-loop
+add-d c = omega arith
+
+loop-less : tie.Need-loop-less Inv-loop μ-loop
+loop-less c = omega arith
+
+loop-again : tie.Need-loop-again Inv-loop μ-loop
+loop-again c = (omega arith, all-more _ (c .before .before .before .loop .inv .1) (cc))
+
+mul-row : tie.Need-mul-row Inv-loop μ-loop
+mul-row c = omega arith
+
+add-row : tie.Need-add-row Inv-loop μ-loop
+add-row c = omega arith
+
+mul-all-zero : tie.Need-mul-all-zero Inv-loop μ-loop
+mul-all-zero c = omega arith
+
+add-all-zero : tie.Need-add-all-zero Inv-loop μ-loop
+add-all-zero c = omega arith
+
+add-all-zero-2 : tie.Need-add-all-zero-2 Inv-loop μ-loop
+add-all-zero-2 c = omega arith
+
+all-zero-requires : tie.Need-all-zero-requires Inv-loop μ-loop
+all-zero-requires c κs = omega arith
+
+returns : tie.Need-returns Inv-loop μ-loop
+returns c = table-done _ _ _ _ _ _ (c .before .before .loop .inv .0) (c .before .loop-test .left) (c .before .before .loop .inv .1) (c .all-zero .ensures)
+
+pub channels-from-spec : {M : Type 1} → statement M
+channels-from-spec =
+    tie.close
+    (tie.spec
+    Inv-loop
+    μ-loop
+    neighbours-requires
+    loop-holds
+    channel-at-requires
+    channel-shaped-requires
+    add-d
+    loop-less
+    loop-again
+    mul-row
+    add-row
+    mul-all-zero
+    add-all-zero
+    add-all-zero-2
+    all-zero-requires
+    returns)

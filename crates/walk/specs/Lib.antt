@@ -1,2 +1,0 @@
--- The reach list in bytes.
-pub mod Walks

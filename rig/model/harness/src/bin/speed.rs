@@ -1,0 +1,182 @@
+//! Measures the library, linked from the archive, beside Rust on the same machine in the same run: nanoseconds and
+//! the ratio. Each figure is the median of several rounds, in which the two take turns; the ratio is that of the
+//! rounds' ratios. Before anything is measured, both sides must agree.
+
+use harness::random::Random;
+use harness::{fast, make};
+use rules::layout::*;
+use rules::net::{Message, Net};
+use rules::plan::{Plan, Stations};
+use rules::{face, fresh, run, shape, step};
+use std::hint::black_box;
+use std::time::Instant;
+
+extern "C" {
+    fn kep_step(net: *mut u8, net_len: usize, action: u8, a: u8, b: u8, c: u8) -> u32;
+    fn kep_run(
+        net: *mut u8,
+        net_len: usize,
+        script: *const u8,
+        script_len: usize,
+        tally: *mut u8,
+        tally_len: usize,
+    ) -> u32;
+}
+
+fn library_step(net: &mut [u8], one: step::Step) -> u32 {
+    // the pointer is to as many bytes as said, and lent for this call alone
+    unsafe { kep_step(net.as_mut_ptr(), net.len(), one[0], one[1], one[2], one[3]) }
+}
+
+fn library_run(net: &mut [u8], script: &[u8], tally: &mut [u8]) -> u32 {
+    // as above, and the three do not overlap
+    unsafe { kep_run(net.as_mut_ptr(), net.len(), script.as_ptr(), script.len(), tally.as_mut_ptr(), tally.len()) }
+}
+
+const ROUNDS: usize = 101;
+const ROUND_NANOS: f64 = 3_000_000.0;
+
+fn main() {
+    println!("speed: nanoseconds, median of {ROUNDS} rounds; the ratio is the library's time to Rust's");
+    well_shaped_test();
+    one_step();
+    long_run();
+}
+
+/// Nanoseconds of one call of the library's and of Rust's, and the ratio of the first to the second.
+fn measure(mut library: impl FnMut(), mut rust: impl FnMut()) -> (f64, f64, f64) {
+    let (many, more) = (calls_in_a_round(&mut library), calls_in_a_round(&mut rust));
+    let (mut theirs, mut ours) = (Vec::new(), Vec::new());
+    for _ in 0..ROUNDS {
+        theirs.push(nanos(&mut library, many));
+        ours.push(nanos(&mut rust, more));
+    }
+    let ratios = theirs.iter().zip(&ours).map(|(their, our)| their / our).collect();
+    (median(theirs), median(ours), median(ratios))
+}
+
+/// Warms up, and finds how many calls fill a round.
+fn calls_in_a_round(call: &mut impl FnMut()) -> usize {
+    nanos(call, 5);
+    let one = nanos(call, 20);
+    1 + (ROUND_NANOS / one.max(1.0)) as usize
+}
+
+fn nanos(call: &mut impl FnMut(), times: usize) -> f64 {
+    let began = Instant::now();
+    for _ in 0..times {
+        call();
+    }
+    began.elapsed().as_nanos() as f64 / times as f64
+}
+
+fn median(mut values: Vec<f64>) -> f64 {
+    values.sort_by(f64::total_cmp);
+    values[values.len() / 2]
+}
+
+fn tell(what: &str, divisor: f64, (library, rust, ratio): (f64, f64, f64), how: &str) {
+    let (library, rust) = (library / divisor, rust / divisor);
+    println!("speed: {what:32} library {library:>10.0}  Rust {rust:>10.0}  ratio {ratio:>5.2}   ({how})");
+}
+
+/// 16 stations, each joined to each, and 4 groups.
+fn full_plan(random: &mut Random) -> Plan {
+    let mut plan = make::plan_of(random, MOST_STATIONS, MOST_GROUPS);
+    for p in 0..MOST_STATIONS {
+        plan.neighbours[p] = Stations(!(1 << p));
+    }
+    plan
+}
+
+/// Every place in use: channels hold 8 messages each.
+fn full_net(random: &mut Random) -> Net {
+    let plan = full_plan(random);
+    let mut net = make::shaped_over(random, plan);
+    for p in 0..MOST_STATIONS {
+        for q in (0..MOST_STATIONS).filter(|&q| q != p) {
+            net.channels[p][q] = (0..CHANNEL_HOLDS).map(|_| make::message(random, MOST_GROUPS)).collect();
+        }
+    }
+    net
+}
+
+/// An action that does not exist is refused with 2 once the net is found well shaped, so its time is that of the
+/// test.
+fn well_shaped_test() {
+    let net = full_net(&mut Random::new(1));
+    let mut theirs = shape::encode(&net);
+    let ours = theirs.clone();
+    assert_eq!(library_step(&mut theirs, [0; 4]), 2);
+    assert!(fast::well_shaped(&ours));
+    let plain = ours.clone();
+    let library = || assert!(library_step(black_box(&mut theirs), black_box([0; 4])) == 2);
+    let times = measure(library, || assert!(fast::well_shaped(black_box(&ours))));
+    tell("well-shaped test, full net", 1.0, times, "Rust: branch-free test on the bytes");
+    let library = || assert!(library_step(black_box(&mut theirs), black_box([0; 4])) == 2);
+    let times = measure(library, || assert!(shape::decode(black_box(&plain)).is_some()));
+    tell("the same", 1.0, times, "Rust: the model's decoding");
+}
+
+/// Refresh, deliver, deliver: at the end the net is as it was, so that the round can be taken again and again.
+fn one_step() {
+    let mut net = full_net(&mut Random::new(2));
+    let root = net.root(0);
+    let child = (root + 1) % MOST_STATIONS;
+    (net.entries[0][child].parent, net.entries[0][child].waiting) = (Some(root), Stations::default());
+    net.entries[0][root].children.add(child);
+    net.entries[0][root].clock = 0;
+    net.channels[root][child].clear();
+    net.channels[child][root].clear();
+    let before = shape::encode(&net);
+    let (p, q) = (child as u8, root as u8);
+    let round = [[3, 0, p, 0], [4, p, q, 0], [4, q, p, 0]];
+    let (mut theirs, mut ours, mut plain) = (before.clone(), before.clone(), before.clone());
+    let mut library = || assert!(round.iter().all(|&one| library_step(black_box(&mut theirs), black_box(one)) == 0));
+    let mut rust = || {
+        let bytes = black_box(&mut ours);
+        assert!(fast::refresh(bytes, 0, p) && fast::deliver(bytes, p, q) && fast::deliver(bytes, q, p));
+    };
+    library();
+    rust();
+    let times = measure(&mut library, &mut rust);
+    tell(
+        "one step, full net",
+        3.0,
+        times,
+        "mean of refresh, deliver, deliver; Rust: branch-free test, then on the bytes",
+    );
+    let rust = || assert!(round.iter().all(|&one| face::step(black_box(&mut plain), black_box(one)) == 0));
+    let times = measure(&mut library, rust);
+    tell("the same", 3.0, times, "Rust: the model, which decodes, steps and encodes");
+    assert!(theirs == before && ours == before && plain == before);
+}
+
+/// A script of 4,096 steps as they come up in use: routes, members, ticks, asks, deliveries, losses.
+fn long_run() {
+    let mut random = Random::new(3);
+    let mut net = fresh::fresh(make::plan_of(&mut random, MOST_STATIONS, MOST_GROUPS));
+    make::set_routes(&mut net);
+    let script = make::steps(&mut random, &mut net.clone(), SCRIPT_BYTES_MOST / 4).concat();
+    let before = shape::encode(&net);
+    let (mut theirs, mut ours) = (before.clone(), before.clone());
+    let (mut their_tally, mut our_tally) = ([0; TALLY_BYTES], [0; TALLY_BYTES]);
+    let mut library = || {
+        theirs.copy_from_slice(&before);
+        assert!(library_run(black_box(&mut theirs), black_box(&script), &mut their_tally) == 0);
+    };
+    let mut rust = || {
+        ours.copy_from_slice(&before);
+        assert!(face::run(black_box(&mut ours), black_box(&script), &mut our_tally) == 0);
+    };
+    library();
+    rust();
+    let times = measure(&mut library, &mut rust);
+    assert!(theirs == ours && their_tally == our_tally);
+    let tally = run::run(&mut net, &script);
+    let busy = net.channels.iter().flatten().flatten().filter(|m| matches!(m, Message::Request { .. })).count();
+    let how = "both with one test of the net; Rust: the model, which decodes and encodes once";
+    tell("run of 4,096 steps", 1.0, times, how);
+    tell("the same, for one step", 4096.0, times, "the run's time by its steps");
+    println!("speed: that run accepted {}, refused {}, left {busy} requests", tally.accepted, tally.refused);
+}
