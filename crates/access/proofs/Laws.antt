@@ -30,7 +30,7 @@ use Rattle.net.proofs.Saved.{view-channel, seen, channel-is, view-bytes, bytes-
 
 pub is-net : (l : List ℕ) → shaped l ≡ true → IsNet l
 unfolding view planIn
-is-net l s = let H = seen l s in record { good = s; long = long l s; stationsAt = refl; groupsAt = refl; few = H .plan .few; fewGroups = H .plan .fewGroups }
+is-net l s = let H = seen l s in record { shape = s; long = long l s; stationsAt = refl; groupsAt = refl; few = H .plan .few; fewGroups = H .plan .fewGroups }
 
 -- bytes that are those of a well-shaped net
 pub is-net-of : (N : Net) (l : List ℕ) → Shaped N → l ≡ bytesOf N → (IsNet l) × (view l ≡ N)
@@ -38,7 +38,7 @@ is-net-of N l H e = let w = stands N l H e in (is-net l (w .0), w .1)
 
 module _ (l : List ℕ) (r : IsNet l) where
   here : bytesOf (view l) ≡ l
-  here = view-bytes l (r .good)
+  here = view-bytes l (r .shape)
 
   -- the channel from s to d, as it is lent: its width is the code's `at + 57 - at`
   module _ (s d at : ℕ) (hs : s < view l .stations) (hd : d < view l .stations) (e : at ≡ channelAt s d) where
@@ -48,7 +48,7 @@ module _ (l : List ℕ) (r : IsNet l) where
     pub channel-lent : IsChannel (lent at (at + 57 - at) l) × (messagesOf (lent at (at + 57 - at) l) ≡ view l .channel s d)
     channel-lent =
         let below : (s < stations l) × (d < stations l) = (omega (arith, r .stationsAt), omega (arith, r .stationsAt)) in (
-          subst IsChannel (sym lent-is) (channel-is l (r .good) s d (below .0) (below .1)),
+          subst IsChannel (sym lent-is) (channel-is l (r .shape) s d (below .0) (below .1)),
           ap messagesOf lent-is ∙ sym (view-channel l s d (below .0) (below .1)),
         )
 
@@ -63,7 +63,7 @@ module _ (l : List ℕ) (r : IsNet l) where
   -- the name of group g, as it is lent
   module _ (g at n : ℕ) (h : g < view l .groups) (i : at ≡ groupAt g + 1) (e : n ≡ nameLength l g) where
     name-few : n ≤ longestName
-    name-few = rw e (name-at l (ofVersion1 netLength) (plan-pass l (r .good)) g (omega (arith, r .groupsAt)) .1)
+    name-few = rw e (name-at l (ofVersion1 netLength) (plan-pass l (r .shape)) g (omega (arith, r .groupsAt)) .1)
 
     name-lent : lent at (at + n - at) l ≡ view l .name g
     unfolding view nameOf
@@ -77,7 +77,7 @@ module _ (l : List ℕ) (r : IsNet l) where
         ∙ part-part n 17 l (groupAt g) 1 (omega (arith, name-few))))
 
     pub name-is : (lent at (at + n - at) l ≡ view l .name g) × (length (lent at (at + n - at) l) ≤ longestName)
-    name-is = (name-lent, rw name-lent (seen l (r .good) .plan .named g h .1))
+    name-is = (name-lent, rw name-lent (seen l (r .shape) .plan .named g h .1))
 
   -- the stretch of group g comes back with the entry of station p written
   pub entry-back : (g p a : ℕ) (e : Entry) → a ≡ stretchAt g → g < view l .groups → p < view l .stations

@@ -7,7 +7,7 @@ use borrow.Author.Tests.{ltb-true}
 use Rattle.bits.proofs.Cases.{and-l, and-r}
 use Rattle.protocol.specs.Net.{Net, nil, capacity, group?, station?, near?}
 use Rattle.protocol.specs.Shaped.{Shaped}
-use Rattle.protocol.proofs.Keeps.{near-cable}
+use Rattle.protocol.proofs.shape.Actions.{near-cable}
 
 module _ (N : Net) where
   pub group-in : (g b c : ℕ) → (group? N g && eqb b 0 && eqb c 0) ≡ true → g < N .groups

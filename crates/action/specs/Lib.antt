@@ -1,2 +1,1 @@
--- What an action answers, and the bytes that it leaves.
-pub mod Ends
+pub mod inner

@@ -1,7 +1,7 @@
 // Answers.
 use crate::Answer;
 ghost use mathlib.Core.Path.{_≡_};
-ghost use Rattle.action.specs.Ends.{refusedWith};
+ghost use Rattle.action.specs.inner.Ends.{refusedWith};
 
 pub fn refused(k: u8) -> Answer
     ensures { λ r. ⌜ r ≡ refusedWith k ⌝ }

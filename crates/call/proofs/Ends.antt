@@ -35,7 +35,7 @@ in-both N g c o = (ltb-true _ _ (and-l (ltb g (N .groups)) (ltb c (N .stations))
 
 -- one more than the copies is the number reached
 pub copies : (l : List ℕ) (R : IsNet l) (g c : ℕ) → g < view l .groups → onTree (treeOf (view l) g) c ≡ true → suc (length (spread (treeOf (view l) g) c)) ≡ length (reach (treeOf (view l) g))
-copies l R g c h t = let H = seen l (R .good) in call-copies (view l) H g h c (on-tree (treeOf (view l) g) (tree-rooted (view l) H g h) c .1 t)
+copies l R g c h t = let H = seen l (R .shape) in call-copies (view l) H g h c (on-tree (treeOf (view l) g) (tree-rooted (view l) H g h) c .1 t)
 
 module _ (l : List ℕ) (g c : ℕ) (out : List ℕ) where
   pub ends-1 : shaped l ≡ false → CallEnd l g c out (Refused 1) out

@@ -49,7 +49,7 @@ module _ (l : List ℕ) (R : IsNet l) (g : ℕ) (h : g < view l .groups) where
   t = treeOf (view l) g
 
   pub few : length (reach t) ≤ mostStations
-  few = reach-few (view l) (seen l (R .good)) g h
+  few = reach-few (view l) (seen l (R .shape)) g h
 
   -- the visit of the root is that of the reach list: p and n are what the code read
   module _ (p n : ℕ) (root : p ≡ view l .root g) (all : n ≡ view l .stations) where
@@ -64,7 +64,7 @@ module _ (l : List ℕ) (R : IsNet l) (g : ℕ) (h : g < view l .groups) where
     root-fit out k = record {
       is-net = R;
       group = h;
-      station = rw root (seen l (R .good) .plan .roots g h);
+      station = rw root (seen l (R .shape) .plan .roots g h);
       long = k;
       deep = omega (arith, R .few);
       room = omega (arith, few, root-length);

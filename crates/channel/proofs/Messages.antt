@@ -6,13 +6,14 @@ use Prim.Native.Nat.{ℕ, suc, _+_, _*_, _^_, _≤_, _<_}
 use native.Mathlib.Numerals.{add-one}
 use lib.ListN.{length, take, getD, List·getD-map}
 use lib.Seq.{take-suc}
+use Rattle.bits.specs.Sums.{bit}
 use Rattle.bits.specs.Numbers.{bytes, number, onto}
 use Rattle.bits.specs.Parts.{part, numberAt}
 use Rattle.bits.proofs.Numbers.{Bytes, length-bytes, number-bytes}
 use Rattle.bits.proofs.Parts.{lent, bytes-numberAt, part-all}
 use Rattle.protocol.specs.declared.Message.{Message}
 use Rattle.protocol.specs.Net.{capacity, removeAt}
-use Rattle.protocol.specs.Entries.{bit, isOf, countOf}
+use Rattle.protocol.specs.Entries.{isOf, countOf}
 use Rattle.protocol.specs.Rules.{noMessage}
 use Rattle.protocol.proofs.laws.Maps.{map-append, map-removeAt}
 use Rattle.protocol.proofs.laws.Messages.{count-snoc}

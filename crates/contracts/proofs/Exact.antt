@@ -5,9 +5,10 @@ use mathlib.Core.List.{List, _∷_}
 use Prim.Native.Nat.{ℕ, _<_}
 use native.Mathlib.Omega.{arith}
 use borrow.Author.Tests.{ltb-true}
+use Rattle.bits.specs.Sums.{bit}
 use Rattle.bits.proofs.Cases.{and-l}
 use Rattle.tree.specs.Tree.{Tree, onTree}
-use Rattle.tree.specs.Reach.{reach, reached, one, count}
+use Rattle.tree.specs.Reach.{reach, stationsIn, count}
 use Rattle.tree.specs.Flood.{spread, receivers}
 use Rattle.tree.proofs.Chains.{on-tree}
 use Rattle.tree.proofs.Counts.{reach-count}
@@ -37,7 +38,7 @@ module _ (l : List ℕ) (g c : ℕ) (fits : Bool) (o : calledIn l g c fits .outc
   inside = ltb-true g (view l .groups) (and-l (group? (view l) g) (station? (view l) c) (all-passed .1 .0))
 
   -- the caller and whoever gets the call from somebody are the stations of the reach list, each as often: once
-  pub call-exact : (x : ℕ) → count x (c ∷ receivers (spread t c)) ≡ count x (reached (reach t))
+  pub call-exact : (x : ℕ) → count x (c ∷ receivers (spread t c)) ≡ count x (stationsIn (reach t))
   unfolding onTree reach
   call-exact x =
       let H = seen l (all-passed .0) in
@@ -45,6 +46,6 @@ module _ (l : List ℕ) (g c : ℕ) (fits : Bool) (o : calledIn l g c fits .outc
       call-reaches (view l) H g inside c (on-tree t w c .1 (all-passed .1 .1)) x ∙ sym (reach-count t w (t .stations) 0 x)
 
   -- and those are the stations on the tree
-  pub call-on-tree : (x : ℕ) → count x (reached (reach t)) ≡ one (onTree t x)
+  pub call-on-tree : (x : ℕ) → count x (stationsIn (reach t)) ≡ bit (onTree t x)
   unfolding onTree reach
   call-on-tree x = reach-count t (tree-rooted (view l) (seen l (all-passed .0)) g inside) (t .stations) 0 x

@@ -39,11 +39,11 @@ use Rattle.net.proofs.Saved.{stands}
 -- bytes of a net that is well shaped and sound
 pub record ShapedSoundBytes (l : List ℕ) : Type 0 where
   pub shape : shaped l ≡ true
-  pub good : ShapedSound (view l)
+  pub sound : ShapedSound (view l)
 
--- the bytes of a good net are fine
+-- the bytes of a well-shaped and sound net
 shaped-sound-bytes : (N : Net) (l : List ℕ) → ShapedSound N → l ≡ bytesOf N → ShapedSoundBytes l
-shaped-sound-bytes N l G e = let w = stands N l (G .shaped) e in record { shape = w .0; good = subst ShapedSound (sym (w .1)) G }
+shaped-sound-bytes N l G e = let w = stands N l (G .shaped) e in record { shape = w .0; sound = subst ShapedSound (sym (w .1)) G }
 
 shaped-sound-fresh : (plan net : List ℕ) → freshOutcome plan net ≡ 0 → ShapedSoundBytes (netAfterFresh plan net)
 unfolding freshOutcome netAfterFresh
@@ -55,11 +55,11 @@ shaped-sound-fresh plan net o =
 shaped-sound-step : (l : List ℕ) → ShapedSoundBytes l → (k a b c : ℕ) → ShapedSoundBytes (netAfterStep l k a b c)
 shaped-sound-step l F k a b c =
     let w = after-net l k a b c (F .shape) in
-    record { shape = w .0; good = subst ShapedSound (sym (w .1)) (step-shaped-sound (view l) (F .good) k a b c) }
+    record { shape = w .0; sound = subst ShapedSound (sym (w .1)) (step-shaped-sound (view l) (F .sound) k a b c) }
 
 shaped-sound-run : (l : List ℕ) → ShapedSoundBytes l → (s : List ℕ) (fits : Bool) → ShapedSoundBytes (netAfterRun l s fits)
 shaped-sound-run l F s fits = by-eq (runOutcome l s fits) 0
-    (λ o. shaped-sound-bytes _ _ (run-shaped-sound (view l) s (F .good) (length s / 4)) (run-after l s fits o .0))
+    (λ o. shaped-sound-bytes _ _ (run-shaped-sound (view l) s (F .sound) (length s / 4)) (run-after l s fits o .0))
     (λ n. subst ShapedSoundBytes (sym (refused-after l s fits n)) F)
 
 pub reachable-shaped-sound : {l : List ℕ} → Reachable l → ShapedSoundBytes l
@@ -70,11 +70,11 @@ reachable-shaped-sound (ran {l} R s fits) = shaped-sound-run l (reachable-shaped
 step-keeps : {l : List ℕ} → Reachable l → (k a b c : ℕ) → KeepsParents (view l) (view (netAfterStep l k a b c))
 step-keeps {l} R k a b c =
     let F = reachable-shaped-sound R in
-    subst (KeepsParents (view l)) (sym (after-net l k a b c (F .shape) .1)) (step-keeps-parents (view l) (F .good .shaped) k a b c)
+    subst (KeepsParents (view l)) (sym (after-net l k a b c (F .shape) .1)) (step-keeps-parents (view l) (F .sound .shaped) k a b c)
 
 module _ {l : List ℕ} (R : Reachable l) where
   pub reachable-demand3 : Demand3 (view l)
-  reachable-demand3 = shaped-sound-demand3 (view l) (reachable-shaped-sound R .good)
+  reachable-demand3 = shaped-sound-demand3 (view l) (reachable-shaped-sound R .sound)
 
   pub reachable-keeps-parents : (k a b c : ℕ) → KeepsParents (view l) (view (netAfterStep l k a b c))
   reachable-keeps-parents = step-keeps R
@@ -83,7 +83,7 @@ module _ {l : List ℕ} (R : Reachable l) where
   unfolding stepOutcome
   reachable-never-six k a b c e =
       let F = reachable-shaped-sound R in
-      never-six (view l) (F .good) k a b c (ap (λ t. orElse t 1 (outcome (view l) k a b c)) (sym (F .shape)) ∙ e)
+      never-six (view l) (F .sound) k a b c (ap (λ t. orElse t 1 (outcome (view l) k a b c)) (sym (F .shape)) ∙ e)
 
   -- after each step of a script
   reachable-turn : (s : List ℕ) (i : ℕ) → Reachable (inTurn l s i)

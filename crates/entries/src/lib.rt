@@ -1,14 +1,17 @@
 // What the actions ask of one entry or message, and what they make of it, by value.
 use protocol::Entry;
 use protocol::Message;
+use protocol::NIL;
+use protocol::REPLY;
+use protocol::REQUEST;
 ghost use mathlib.Core.Path.{_≡_};
 ghost use mathlib.Core.Bool.{not, _&&_};
 ghost use Prim.Native.Nat.{_<_};
 ghost use lib.Dec.{eqb};
 ghost use Rattle.bits.specs.Masks as mask;
+ghost use Rattle.bits.specs.Sums.{bit};
+ghost use Rattle.protocol.specs.Net.{nil, largestClock};
 ghost use Rattle.protocol.specs.Entries as rule;
-
-const NIL: u8 = 255;
 
 fn joins(e: Entry) -> bool
     ensures { λ r. ⌜ r ≡ rule.joins e ⌝ }
@@ -24,20 +27,20 @@ fn connected(root: u8, p: u8, e: Entry) -> bool
 
 // Whether station p may ask q, its route's neighbour.
 pub fn may_ask(root: u8, p: u8, q: u8, e: Entry) -> bool
-    ensures { λ r. ⌜ r ≡ (not (eqb p root) && rule.joins e && not (eqb q 255) && not (mask.has (e .waiting) q)) ⌝ }
+    ensures { λ r. ⌜ r ≡ (not (eqb p root) && rule.joins e && not (eqb q nil) && not (mask.has (e .waiting) q)) ⌝ }
 {
     !(p == root) & joins(e) & !(q == NIL) & !bits::mask::has(e.waiting, q)
 }
 
 // Whether the station may ask its parent.
 pub fn may_refresh(e: Entry) -> bool
-    ensures { λ r. ⌜ r ≡ (not (eqb (e .parent) 255) && not (mask.has (e .waiting) (e .parent))) ⌝ }
+    ensures { λ r. ⌜ r ≡ (not (eqb (e .parent) nil) && not (mask.has (e .waiting) (e .parent))) ⌝ }
 {
     !(e.parent == NIL) & !bits::mask::has(e.waiting, e.parent)
 }
 
 pub fn ticked(mut e: Entry) -> Entry
-    requires { ⌜ e .clock < 4294967295 ⌝ }
+    requires { ⌜ e .clock < largestClock ⌝ }
     ensures { λ r. ⌜ r ≡ rule.ticked e ⌝ }
 {
     e.clock = e.clock + 1;
@@ -112,7 +115,7 @@ pub fn request_of(g: u8) -> Message
     ensures { λ r. ⌜ r ≡ rule.requestOf g ⌝ }
 {
     Message {
-        kind: 1,
+        kind: REQUEST,
         group: g,
         connected: 0,
         clock: 0,
@@ -120,7 +123,7 @@ pub fn request_of(g: u8) -> Message
 }
 
 fn bit(b: bool) -> u8
-    ensures { λ r. ⌜ r ≡ rule.bit b ⌝ }
+    ensures { λ r. ⌜ r ≡ bit b ⌝ }
 {
     if b { 1 } else { 0 }
 }
@@ -129,7 +132,7 @@ pub fn reply_of(g: u8, root: u8, p: u8, e: Entry) -> Message
     ensures { λ r. ⌜ r ≡ rule.replyOf g root p e ⌝ }
 {
     Message {
-        kind: 2,
+        kind: REPLY,
         group: g,
         connected: bit(connected(root, p, e)),
         clock: e.clock,

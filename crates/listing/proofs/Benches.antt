@@ -16,7 +16,7 @@ use Rattle.protocol.specs.Net.{Net, inChannels}
 use Rattle.protocol.specs.Shaped.{Shaped}
 use Rattle.protocol.specs.Fresh.{Plan, fresh}
 use Rattle.protocol.specs.Steps.{orElse}
-use Rattle.protocol.specs.Runs.{Ran, lengthOutcome, scriptOutcome, run}
+use Rattle.protocol.specs.Runs.{RunState, lengthOutcome, scriptOutcome, run}
 use Rattle.protocol.proofs.steps.Steps.{orElse-pass}
 use Rattle.protocol.proofs.Theorems.{run-conserves}
 use Rattle.layout.specs.Layout.{planLength, netLength}
@@ -84,7 +84,7 @@ module _ (stored : List ℕ) (beyond : ℕ) where
     pub text : listing (view l) t ≡ storedText stored beyond
 
   -- the run of the fresh net
-  module _ (first s : List ℕ) (x : by-value.Answer) (l : List ℕ) (good : storedOutcome stored beyond ≡ 0)
+  module _ (first s : List ℕ) (x : by-value.Answer) (l : List ℕ) (accepted : storedOutcome stored beyond ≡ 0)
       (made : first ≡ bytesOf (fresh (planIn (planPart stored)))) (rest : s ≡ scriptPart stored)
       (ran : (x ≡ runAnswer first s true) × (l ≡ netAfterRun first s true)) where
     abbrev N : Net
@@ -92,7 +92,7 @@ module _ (stored : List ℕ) (beyond : ℕ) where
 
     planned : planShaped (planPart stored) ≡ true
     unfolding storedOutcome
-    planned = orElse-pass (planShaped (planPart stored)) 9 (lengthOutcome (length (scriptPart stored) + beyond)) 0 (λ i. omega arith) good .0
+    planned = orElse-pass (planShaped (planPart stored)) 9 (lengthOutcome (length (scriptPart stored) + beyond)) 0 (λ i. omega arith) accepted .0
 
     shape : shaped first ≡ true
     shape = ap shaped made ∙ fresh-view (planPart stored) planned .0
@@ -116,5 +116,5 @@ module _ (stored : List ℕ) (beyond : ℕ) where
     listed = record {
       net = is-net l (ap shaped (ran .1) ∙ run-shows first s shape .0);
       left = rw (ran-tally, ran-net) (omega (arith, conserved, no-messages (planIn (planPart stored))));
-      text = rw (good, ran-net, ran-tally, rest) refl;
+      text = rw (accepted, ran-net, ran-tally, rest) refl;
     }

@@ -6,7 +6,7 @@ use lib.Dec.{eqb}
 use lib.ListN.{length, take, drop}
 use Rattle.protocol.specs.Fresh.{fresh}
 use Rattle.protocol.specs.Steps.{orElse}
-use Rattle.protocol.specs.Runs.{Ran, longestScript, lengthOutcome, scriptOutcome, run}
+use Rattle.protocol.specs.Runs.{RunState, longestScript, lengthOutcome, scriptOutcome, run}
 use Rattle.layout.specs.Layout.{planLength}
 use Rattle.plan.specs.Planned.{planShaped}
 use Rattle.listing.specs.Lines.{listing, refusedText}
@@ -19,7 +19,7 @@ planPart input = take planLength input
 abbrev pub scriptPart : List ℕ → List ℕ
 scriptPart input = drop planLength input
 
-abbrev pub printed : ℕ → Ran → List ℕ
+abbrev pub printed : ℕ → RunState → List ℕ
 printed k R = cond (eqb k 0) (listing (R .net) (R .tally)) (refusedText k)
 
 -- "Input under 112 bytes gives 9", and so does a plan that is not well shaped; "11 still comes before 12"

@@ -13,11 +13,12 @@ use native.Mathlib.Omega.{arith}
 use lib.Dec.{eqb}
 use lib.ListN.{length, replicate, length-append, length-replicate}
 use borrow.Author.Tests.{lt-ltb}
+use Rattle.bits.specs.Sums.{bit}
 use Rattle.bits.specs.Masks.{has}
 use Rattle.bits.proofs.Cases.{and-l, is-false, clash}
 use Rattle.bits.proofs.Masks.{has-zero}
 use Rattle.tree.specs.Tree.{agreed, OnTree, onTree, Rooted}
-use Rattle.tree.specs.Reach.{reach, count, one}
+use Rattle.tree.specs.Reach.{reach, count}
 use Rattle.tree.specs.Flood.{spread, receivers}
 use Rattle.tree.proofs.Chains.{on-tree, reach-at-most}
 use Rattle.tree.proofs.Floods.{flood-reaches, flood-copies}
@@ -48,7 +49,7 @@ module _ (N : Net) (H : Shaped N) (g : ℕ) (l : g < N .groups) where
   unfolding spread
   call-copies c o = flood-copies (treeOf N g) tree-rooted few-stations c o _ (le-refl _)
 
-  pub call-reaches : (c : ℕ) → OnTree (treeOf N g) c → (x : ℕ) → count x (c ∷ receivers (spread (treeOf N g) c)) ≡ one (onTree (treeOf N g) x)
+  pub call-reaches : (c : ℕ) → OnTree (treeOf N g) c → (x : ℕ) → count x (c ∷ receivers (spread (treeOf N g) c)) ≡ bit (onTree (treeOf N g) x)
   unfolding spread
   call-reaches c o = flood-reaches (treeOf N g) tree-rooted few-stations c o _ (le-refl _)
 
@@ -65,7 +66,7 @@ module _ (N : Net) (H : Shaped N) (g : ℕ) (l : g < N .groups) where
     length-replicate (mostStations - length (reach (treeOf N g))) noReach,
   )
 
-  -- of a good group, station and list
+  -- of a group, a station and a list that are in range
   module _ (c : ℕ) (inside : station? N c ≡ true) where
     pub call-off : (callOutcome N g c true ≡ 8) ↔ (OnTree (treeOf N g) c → ⊥)
     unfolding callOutcome group?

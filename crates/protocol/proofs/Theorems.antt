@@ -10,6 +10,7 @@ use native.Mathlib.Omega.{arith}
 use lib.Dec.{eqb}
 use lib.ListN.{getD}
 use borrow.Author.Tests.{eqb-true, eq-eqb}
+use Rattle.bits.specs.Sums.{bit}
 use Rattle.bits.proofs.Cases.{by-bool, by-lt}
 use Rattle.tree.specs.Tree.{OnTree}
 use Rattle.tree.proofs.Chains.{chain-short}
@@ -17,9 +18,9 @@ use Rattle.protocol.specs.declared.Entry.{Entry}
 use Rattle.protocol.specs.declared.Message.{Message}
 use Rattle.protocol.specs.Net.{Net, request, reply, inChannels}
 use Rattle.protocol.specs.Fresh.{Plan, blank, fresh}
-use Rattle.protocol.specs.Entries.{bit, isOf, countOf, underway}
+use Rattle.protocol.specs.Entries.{isOf, countOf, underway}
 use Rattle.protocol.specs.Steps.{rule, action?, outcome, step}
-use Rattle.protocol.specs.Runs.{countAccepted, countRefused, Ran, then, after}
+use Rattle.protocol.specs.Runs.{countAccepted, countRefused, RunState, then, after}
 use Rattle.protocol.specs.Calls.{treeOf}
 use Rattle.protocol.specs.Shaped.{All, none, both, ShapedPlan, ShapedMessage, Shaped}
 use Rattle.protocol.specs.Sound.{Sound, SoundNet}
@@ -147,7 +148,7 @@ step-conserves N H k a b c e =
     rw (eq-eqb (outcome N k a b c) 0 e) (conserves N H k a b c (accepted (rule N k a b c) (orElse-pass (action? k) 2 _ 0 (λ i. omega arith) e .1)))
 
 -- one step more of a run
-then-conserves : (n : ℕ) (R : Ran) → Shaped (R .net) → (k a b c : ℕ)
+then-conserves : (n : ℕ) (R : RunState) → Shaped (R .net) → (k a b c : ℕ)
     → n + R .tally .sent ≡ R .tally .delivered + R .tally .lost + inChannels (R .net)
     → n + then R k a b c .tally .sent ≡ then R k a b c .tally .delivered + then R k a b c .tally .lost + inChannels (then R k a b c .net)
 unfolding then

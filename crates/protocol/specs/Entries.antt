@@ -3,6 +3,7 @@ use mathlib.Core.Bool.{Bool, true, false, cond, not, _&&_, _||_}
 use mathlib.Core.List.{List, [], _∷_}
 use Prim.Native.Nat.{ℕ, _+_}
 use lib.Dec.{eqb, ltb}
+use Rattle.bits.specs.Sums.{bit}
 use Rattle.bits.specs.Masks.{with, without}
 use Rattle.protocol.specs.declared.Entry.{Entry}
 use Rattle.protocol.specs.declared.Message.{Message}
@@ -67,11 +68,6 @@ stayOrLeave r p e = cond (eqb p r || joins e) e (leave e)
 -- "both connected and clock zero in a request"
 abbrev pub requestOf : ℕ → Message
 requestOf g = record { kind = request; group = g; connected = 0; clock = 0 }
-
--- 1 for true
-abbrev pub bit : Bool → ℕ
-bit true = 1
-bit false = 0
 
 -- station p "replies with its connected flag and clock"
 abbrev pub replyOf : ℕ → ℕ → ℕ → Entry → Message

@@ -4,10 +4,11 @@ use mathlib.Core.List.{List, [], _∷_}
 use Prim.Native.Nat.{ℕ}
 use lib.Dec.{eqb, ltb}
 use lib.ListN.{length, getD}
+use Rattle.bits.specs.Sums.{bit}
 use Rattle.bits.specs.Masks.{has}
 use Rattle.protocol.specs.declared.Message.{Message}
 use Rattle.protocol.specs.Net.{NetOf, Net, nil, largestClock, capacity, roomIn, request, setEntry, setRoute, send, takeAt, group?, station?, near?}
-use Rattle.protocol.specs.Entries.{joins, ticked, waitsOn, stopsWaiting, asking, withChild, withoutChild, stayOrLeave, withMember, requestOf, replyOf, hearing, bit, underway}
+use Rattle.protocol.specs.Entries.{joins, ticked, waitsOn, stopsWaiting, asking, withChild, withoutChild, stayOrLeave, withMember, requestOf, replyOf, hearing, underway}
 
 -- the messages that a step sends, delivers and loses
 pub record Traffic : Type 0 where

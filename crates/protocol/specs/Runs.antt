@@ -25,19 +25,19 @@ countAccepted t R = record {
 abbrev pub countRefused : Tally → Tally
 countRefused t = record { accepted = t .accepted; refused = t .refused + 1; sent = t .sent; delivered = t .delivered; lost = t .lost }
 
-pub record Ran : Type 0 where
+pub record RunState : Type 0 where
   pub net : Net
   pub tally : Tally
 
 -- one step more: "a step refused is counted and passed over"
-unfoldable pub then : Ran → ℕ → ℕ → ℕ → ℕ → Ran
+unfoldable pub then : RunState → ℕ → ℕ → ℕ → ℕ → RunState
 then R k a b c = record {
   net = step (R .net) k a b c;
   tally = cond (eqb (outcome (R .net) k a b c) 0) (countAccepted (R .tally) (rule (R .net) k a b c)) (countRefused (R .tally));
 }
 
 -- after the first i steps of the script s. "A script is 4 bytes a step": the action and its operands a, b, c
-unfoldable pub after : Net → List ℕ → ℕ → Ran
+unfoldable pub after : Net → List ℕ → ℕ → RunState
 after N s zero = record { net = N; tally = noTally }
 after N s (suc i) = then (after N s i) (getD s (4 * i) 0) (getD s (4 * i + 1) 0) (getD s (4 * i + 2) 0) (getD s (4 * i + 3) 0)
 
@@ -52,5 +52,5 @@ unfoldable pub scriptOutcome : List ℕ → ℕ
 scriptOutcome s = lengthOutcome (length s)
 
 -- "The run takes every step in turn." A refused run takes none
-unfoldable pub run : Net → List ℕ → Ran
+unfoldable pub run : Net → List ℕ → RunState
 run N s = after N s (cond (eqb (scriptOutcome s) 0) (length s / 4) 0)

@@ -9,7 +9,7 @@ use Rattle.protocol.specs.Net.{Net, request}
 use Rattle.protocol.specs.Rules.{Rule, noTraffic, oneSent, oneLost, oldest}
 use Rattle.protocol.specs.Rules.{tick, ask, refresh, deliver, lose, giveUp, dropChild, member, route, rules}
 use Rattle.protocol.specs.Steps.{rule, outcome}
-use Rattle.protocol.specs.Runs.{Ran, then, after}
+use Rattle.protocol.specs.Runs.{RunState, then, after}
 use Rattle.protocol.specs.Shaped.{All, none, both}
 use Rattle.protocol.proofs.laws.Messages.{bit-le}
 use Rattle.protocol.proofs.steps.Steps.{each-rule}
@@ -44,7 +44,7 @@ all-few N a b c =
 pub one-each : (N : Net) (k a b c : ℕ) → AtMostOne (rule N k a b c)
 one-each N k a b c = each-rule N AtMostOne (still _ refl) a b c (all-few N a b c) k
 
-then-few : (R : Ran) (i k a b c : ℕ) → CountsUpTo i (R .tally) → CountsUpTo (suc i) (then R k a b c .tally)
+then-few : (R : RunState) (i k a b c : ℕ) → CountsUpTo i (R .tally) → CountsUpTo (suc i) (then R k a b c .tally)
 unfolding then
 then-few R i k a b c f =
     let o = one-each (R .net) k a b c in

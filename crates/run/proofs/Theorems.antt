@@ -21,7 +21,7 @@ use Rattle.bits.proofs.Cases.{by-bool}
 use Rattle.protocol.specs.declared.Tally.{Tally}
 use Rattle.protocol.specs.Net.{Net, inChannels}
 use Rattle.protocol.specs.Steps.{step}
-use Rattle.protocol.specs.Runs.{Ran, noTally, then, after, scriptOutcome, run}
+use Rattle.protocol.specs.Runs.{RunState, noTally, then, after, scriptOutcome, run}
 use Rattle.protocol.proofs.steps.Steps.{orElse-pass}
 use Rattle.protocol.proofs.Theorems as book
 use Rattle.shape.specs.Shape.{shaped}
@@ -44,7 +44,7 @@ module _ (l s : List ℕ) where
   steps = length s / 4
 
   -- the book's net and tally after i steps
-  abbrev at : ℕ → Ran
+  abbrev at : ℕ → RunState
   at i = after (view l) s i
 
   run-all : scriptOutcome s ≡ 0 → run (view l) s ≡ at steps
@@ -101,7 +101,7 @@ module _ (l s : List ℕ) where
       run-after =
           let w = passed o in
           let e : netAfterRun l s fits ≡ bytesOf (at steps .net) =
-          rw (eq-eqb (runOutcome l s fits) 0 o) (ap (λ (R : Ran). bytesOf (R .net)) (run-all (w .script))) in
+          rw (eq-eqb (runOutcome l s fits) 0 o) (ap (λ (R : RunState). bytesOf (R .net)) (run-all (w .script))) in
           (e, ap view e ∙ at-stands (w .shape) steps .1)
 
       pub run-in-turn : netAfterRun l s fits ≡ inTurn l s steps
@@ -111,7 +111,7 @@ module _ (l s : List ℕ) where
         -- "each set anew by the run": whatever the tally was
         pub tally-after : runTally l s fits t ≡ at steps .tally
         unfolding runTally
-        tally-after = rw (eq-eqb (runOutcome l s fits) 0 o) (ap (λ (R : Ran). R .tally) (run-all (passed o .script)))
+        tally-after = rw (eq-eqb (runOutcome l s fits) 0 o) (ap (λ (R : RunState). R .tally) (run-all (passed o .script)))
 
         pub run-conserves : inChannels (view l) + runTally l s fits t .sent
             ≡ runTally l s fits t .delivered + runTally l s fits t .lost + inChannels (view (netAfterRun l s fits))
@@ -122,4 +122,4 @@ module _ (l s : List ℕ) where
 
   pub bytes-after : (t : List ℕ) → runOutcome l s (tallyFits t) ≡ 0 → tallyAfterRun l s t ≡ tallyBytes (at steps .tally)
   unfolding tallyAfterRun
-  bytes-after t o = rw o (ap (λ (R : Ran). tallyBytes (R .tally)) (run-all (passed (tallyFits t) o .script)))
+  bytes-after t o = rw o (ap (λ (R : RunState). tallyBytes (R .tally)) (run-all (passed (tallyFits t) o .script)))

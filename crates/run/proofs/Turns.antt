@@ -9,7 +9,7 @@ use Rattle.bits.proofs.Cases.{by-bool}
 use Rattle.protocol.specs.declared.Tally.{Tally}
 use Rattle.protocol.specs.Net.{Net}
 use Rattle.protocol.specs.Steps.{outcome, step}
-use Rattle.protocol.specs.Runs.{Ran, then, after}
+use Rattle.protocol.specs.Runs.{RunState, then, after}
 use Rattle.protocol.specs.Shaped.{Shaped}
 use Rattle.protocol.proofs.Theorems.{run-shaped}
 use Rattle.net.specs.View.{view}
@@ -17,11 +17,11 @@ use Rattle.net.specs.Encode.{bytesOf}
 use Rattle.access.specs.inner.Nets.{IsNet}
 use Rattle.access.proofs.Laws.{is-net-of}
 use Rattle.action.specs.declared.Answer.{Answer}
-use Rattle.step.specs.Steps.{stepAnswer, StepEnd}
+use Rattle.step.specs.inner.Ends.{stepAnswer, StepEnd}
 use Rattle.run.specs.inner.Counts.{counted}
 
 -- what a step did is counted as the book counts it
-counts-step : (R : Ran) (k a b c : ℕ) → counted (R .tally) (stepAnswer (R .net) k a b c) ≡ then R k a b c .tally
+counts-step : (R : RunState) (k a b c : ℕ) → counted (R .tally) (stepAnswer (R .net) k a b c) ≡ then R k a b c .tally
 unfolding counted stepAnswer then
 counts-step R k a b c = by-bool (eqb (outcome (R .net) k a b c) 0) (λ t. rw t refl) (λ f. rw (f, f) refl)
 

@@ -1,5 +1,5 @@
 // Whether bytes are a well-shaped net.
 mod channels;
-mod station_entries;
 mod routes;
+mod station_entries;
 pub mod whole;

@@ -22,9 +22,9 @@ use Rattle.protocol.specs.Net.{Net, mostStations, mostGroups}
 use Rattle.protocol.specs.Fresh.{Plan, planOf}
 use Rattle.protocol.specs.Steps.{outcome, step}
 use Rattle.protocol.specs.Apart.{groupIn, Untouched, groupOf, uses}
-use Rattle.protocol.proofs.Steps.{step-plan, refused-same}
-use Rattle.protocol.proofs.Keeps.{step-shaped}
-use Rattle.protocol.proofs.Aparts.{step-apart, route-apart, step-channels, step-routes}
+use Rattle.protocol.proofs.steps.Steps.{step-plan, refused-same}
+use Rattle.protocol.proofs.shape.Actions.{step-shaped}
+use Rattle.protocol.proofs.steps.Aparts.{step-apart, route-apart, step-channels, step-routes}
 use Rattle.channel.specs.Messages.{channelBytes}
 use Rattle.layout.specs.Layout.{netLength, routeAt, entrySize, stretchSize, stretchAt, entryAt, channelAt, channelSize}
 use Rattle.plan.specs.Planned.{ofVersion1}

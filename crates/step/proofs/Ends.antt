@@ -1,5 +1,5 @@
 -- How a step ends.
-use mathlib.Core.Path.{_≡_, refl, sym, ap, _∙_}
+use mathlib.Core.Path.{_≡_, refl, sym, ap, subst, _∙_}
 use mathlib.Core.Logic.{_≢_}
 use mathlib.Core.Bool.{true, false, and-false}
 use mathlib.Core.List.{List}
@@ -12,29 +12,34 @@ use Rattle.protocol.specs.Net.{Net}
 use Rattle.protocol.specs.Rules.{Rule}
 use Rattle.protocol.specs.Steps.{verdict, action?, rule, outcome, step}
 use Rattle.net.specs.View.{view}
-use Rattle.access.specs.Nets.{IsNet}
+use Rattle.access.specs.inner.Nets.{IsNet}
 use Rattle.action.specs.declared.Answer.{Answer}
-use Rattle.action.specs.Ends.{refusedWith, answerBy, netAfterAction, ActionEnd}
+use Rattle.action.specs.inner.Ends.{refusedWith, answerBy, netAfterAction, ActionEnd}
 use Rattle.shape.specs.Shape.{shaped}
-use Rattle.step.specs.Steps.{stepOutcome, netAfterStep, stepAnswer, StepEnd}
+use Rattle.step.specs.Steps.{stepOutcome, netAfterStep}
+use Rattle.step.specs.inner.Ends.{stepAnswer, StepEnd}
 use Rattle.net.proofs.Saved.{view-bytes}
 
 module _ (l : List ℕ) (r : IsNet l) (k a b c : ℕ) where
   abbrev R : Rule Net
   R = rule (view l) k a b c
 
-  -- an action with a number did what its rule says
-  pub takes : {d : Answer} {l' : List ℕ} → action? k ≡ true → ActionEnd R l d l' → StepEnd l k a b c d l'
+  -- an action did what its rule says
+  takes : {d : Answer} {l' : List ℕ} → action? k ≡ true → ActionEnd R l d l' → StepEnd l k a b c d l'
   unfolding stepAnswer outcome step answerBy netAfterAction
   takes t D = record {
     answer = D .answer ∙ rw t refl;
-    bytes = D .bytes ∙ by-bool (eqb (verdict R) 0) (λ e. rw (t, e) refl) (λ e. rw (t, e) (sym (view-bytes l (r .good))));
+    bytes = D .bytes ∙ by-bool (eqb (verdict R) 0) (λ e. rw (t, e) refl) (λ e. rw (t, e) (sym (view-bytes l (r .shape))));
   }
 
   -- a number that names no action
   pub unknown : {d : Answer} → action? k ≡ false → d ≡ refusedWith 2 → StepEnd l k a b c d l
   unfolding stepAnswer outcome step
-  unknown f e = record { answer = e ∙ rw f refl; bytes = rw f (sym (view-bytes l (r .good))) }
+  unknown f e = record { answer = e ∙ rw f refl; bytes = rw f (sym (view-bytes l (r .shape))) }
+
+-- the arm of number n: its action did what the rule of that number says
+pub arm : (n : ℕ) → action? n ≡ true → (l : List ℕ) → IsNet l → (k a b c : ℕ) → k ≡ n → {d : Answer} {l' : List ℕ} → ActionEnd (rule (view l) n a b c) l d l' → StepEnd l k a b c d l'
+arm n t l r k a b c e {d} {l'} D = subst (λ (k : ℕ). StepEnd l k a b c d l') (sym e) (takes l r n a b c t D)
 
 -- a number that is none of one to nine names no action
 past : (n k : ℕ) → n ≤ k → k ≢ n → suc n ≤ k

@@ -1,2 +1,3 @@
 -- One step over bytes.
 pub mod Steps
+pub mod inner

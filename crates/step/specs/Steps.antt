@@ -1,16 +1,12 @@
 -- A step over bytes: what it answers, and the bytes that it leaves.
-use mathlib.Core.Path.{_≡_}
 use mathlib.Core.Bool.{cond}
 use mathlib.Core.List.{List}
 use Prim.Native.Nat.{ℕ}
 use lib.Dec.{eqb}
-use Rattle.protocol.specs.Net.{Net}
-use Rattle.protocol.specs.Steps.{orElse, rule, outcome, step}
+use Rattle.protocol.specs.Steps.{orElse, outcome, step}
 use Rattle.shape.specs.Shape.{shaped}
 use Rattle.net.specs.View.{view}
 use Rattle.net.specs.Encode.{bytesOf}
-use Rattle.action.specs.declared.Answer.{Answer}
-use Rattle.action.specs.Ends.{refusedWith, acceptedBy}
 
 -- 1: "the net is not 15,728 bytes or not well shaped"; the others are the rules'
 unfoldable pub stepOutcome : List ℕ → ℕ → ℕ → ℕ → ℕ → ℕ
@@ -19,11 +15,3 @@ stepOutcome l k a b c = orElse (shaped l) 1 (outcome (view l) k a b c)
 -- "A refusal .. changes no lent byte"; an accepted step leaves the bytes of the rule's next net
 unfoldable pub netAfterStep : List ℕ → ℕ → ℕ → ℕ → ℕ → List ℕ
 netAfterStep l k a b c = cond (eqb (stepOutcome l k a b c) 0) (bytesOf (step (view l) k a b c)) l
-
--- the same with the messages that the step sent, delivered and lost, of bytes that are a net's
-unfoldable pub stepAnswer : Net → ℕ → ℕ → ℕ → ℕ → Answer
-stepAnswer N k a b c = let o = outcome N k a b c in cond (eqb o 0) (acceptedBy (rule N k a b c)) (refusedWith o)
-
-pub record StepEnd (l : List ℕ) (k a b c : ℕ) (r : Answer) (l' : List ℕ) : Type 0 where
-  pub answer : r ≡ stepAnswer (view l) k a b c
-  pub bytes : l' ≡ bytesOf (step (view l) k a b c)

@@ -14,20 +14,20 @@ use native.Mathlib.Omega.{arith}
 use lib.ListN.{length}
 use lib.Dec.{eqb}
 use borrow.Author.Tests.{eqb-true, eq-eqb, ne-eqb}
-use Rattle.bits.specs.Sums.{over}
+use Rattle.bits.specs.Sums.{bit, over}
 use Rattle.bits.proofs.Sums.{over-ext, over-le, over-strict}
 use Rattle.bits.proofs.Cases.{and-l, and-r, and-both, by-or, or-r, is-false, clash}
 use Rattle.tree.specs.declared.Reach.{Reach}
 use Rattle.tree.specs.Tree.{Tree, agreed, Chain, OnTree, climbs, onTree, Rooted}
 use Rattle.tree.specs.Tree.Chain.{here, hop}
-use Rattle.tree.specs.Reach.{visit, reach, reached, one, count}
+use Rattle.tree.specs.Reach.{visit, reach, stationsIn, count}
 use Rattle.tree.proofs.Sums.{length-count, one-le, one-mono}
 use Rattle.tree.proofs.Counts.{reach-count}
 
-length-reached : (l : List Reach) → length (reached l) ≡ length l
-unfolding reached
-length-reached [] = refl
-length-reached (x ∷ l) = ap suc (length-reached l)
+length-stations : (l : List Reach) → length (stationsIn l) ≡ length l
+unfolding stationsIn
+length-stations [] = refl
+length-stations (x ∷ l) = ap suc (length-stations l)
 
 module _ (t : Tree) (w : Rooted t) where
   -- ---- chains and the test
@@ -74,20 +74,20 @@ module _ (t : Tree) (w : Rooted t) where
   grows-by d (suc k) x e = rw suc-add (grows (k + d) x (grows-by d k x e))
 
   -- ---- a chain has fewer than n hops: at each number of hops up to its own the tree has one station more
-  more : {x k : ℕ} → Chain t x k → over (λ y. one (climbs t k y)) 0 (t .stations) < over (λ y. one (climbs t (suc k) y)) 0 (t .stations)
+  more : {x k : ℕ} → Chain t x k → over (λ y. bit (climbs t k y)) 0 (t .stations) < over (λ y. bit (climbs t (suc k) y)) 0 (t .stations)
   more {x} {k} c =
       let lt = chain-low c in
-      over-strict (λ y. one (climbs t k y)) (λ y. one (climbs t (suc k) y)) (λ y. one-mono (climbs t k y) (climbs t (suc k) y) (grows k y)) x
+      over-strict (λ y. bit (climbs t k y)) (λ y. bit (climbs t (suc k) y)) (λ y. one-mono (climbs t k y) (climbs t (suc k) y) (grows k y)) x
       (rw (not-sooner c, chain-climbs c) (omega arith)) 0 (t .stations) (omega arith) (omega arith)
 
-  many : {x k : ℕ} → Chain t x k → suc k ≤ over (λ y. one (climbs t (suc k) y)) 0 (t .stations)
+  many : {x k : ℕ} → Chain t x k → suc k ≤ over (λ y. bit (climbs t (suc k) y)) 0 (t .stations)
   many here = let m = more here in omega arith
   many (hop {k = k} a c) = let i = many c in let m = more (hop a c) in omega arith
 
   pub chain-short : {x k : ℕ} → Chain t x k → k < t .stations
   chain-short {x} {k} c =
       let m = many c in
-      omega (arith, over-le (λ y. one (climbs t (suc k) y)) (λ y. one-le (climbs t (suc k) y)) 0 (t .stations))
+      omega (arith, over-le (λ y. bit (climbs t (suc k) y)) (λ y. one-le (climbs t (suc k) y)) 0 (t .stations))
 
   pub on-tree : (x : ℕ) → OnTree t x ↔ (onTree t x ≡ true)
   unfolding onTree
@@ -102,21 +102,21 @@ module _ (t : Tree) (w : Rooted t) where
   pub off-tree : (d x : ℕ) → t .stations ≤ x → climbs t d x ≡ false
   off-tree d x le = is-false (climbs t d x) (λ e. let c = climbs-chain d x e in let lt = chain-low (c .2) in omega arith)
 
-  pub visit-length : (d e : ℕ) → length (visit t d e (t .root)) ≡ over (λ x. one (climbs t d x)) 0 (t .stations)
+  pub visit-length : (d e : ℕ) → length (visit t d e (t .root)) ≡ over (λ x. bit (climbs t d x)) 0 (t .stations)
   visit-length d e =
-      sym (length-reached (visit t d e (t .root)))
-      ∙ length-count (t .stations) (reached (visit t d e (t .root))) (λ x le. reach-count t w d e x ∙ ap one (off-tree d x le))
+      sym (length-stations (visit t d e (t .root)))
+      ∙ length-count (t .stations) (stationsIn (visit t d e (t .root))) (λ x le. reach-count t w d e x ∙ ap bit (off-tree d x le))
       ∙ over-ext _ _ (λ x. reach-count t w d e x) 0 (t .stations)
 
-  pub reach-once : (x : ℕ) → OnTree t x → count x (reached (reach t)) ≡ 1
+  pub reach-once : (x : ℕ) → OnTree t x → count x (stationsIn (reach t)) ≡ 1
   unfolding reach onTree
-  reach-once x o = reach-count t w (t .stations) 0 x ∙ ap one (on-tree x .0 o)
+  reach-once x o = reach-count t w (t .stations) 0 x ∙ ap bit (on-tree x .0 o)
 
-  pub reach-never : (x : ℕ) → (OnTree t x → ⊥) → count x (reached (reach t)) ≡ 0
+  pub reach-never : (x : ℕ) → (OnTree t x → ⊥) → count x (stationsIn (reach t)) ≡ 0
   unfolding reach onTree
-  reach-never x off = reach-count t w (t .stations) 0 x ∙ ap one (is-false (climbs t (t .stations) x) (λ e. off (on-tree x .1 e)))
+  reach-never x off = reach-count t w (t .stations) 0 x ∙ ap bit (is-false (climbs t (t .stations) x) (λ e. off (on-tree x .1 e)))
 
   pub reach-at-most : length (reach t) ≤ t .stations
   unfolding reach
   reach-at-most = rw (visit-length (t .stations) 0)
-      (over-le (λ x. one (climbs t (t .stations) x)) (λ x. one-le (climbs t (t .stations) x)) 0 (t .stations))
+      (over-le (λ x. bit (climbs t (t .stations) x)) (λ x. one-le (climbs t (t .stations) x)) 0 (t .stations))

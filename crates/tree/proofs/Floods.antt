@@ -11,12 +11,12 @@ use native.Mathlib.Omega.{arith}
 use lib.ListN.{length}
 use lib.Dec.{eqb}
 use borrow.Author.Tests.{eqb-true, eq-eqb, ne-eqb}
-use Rattle.bits.specs.Sums.{over}
+use Rattle.bits.specs.Sums.{bit, over}
 use Rattle.bits.proofs.Sums.{over-ext, over-add, over-zero}
 use Rattle.bits.proofs.Cases.{by-bool, by-eq, is-false}
 use Rattle.tree.specs.Tree.{Tree, nil, agreed, Chain, OnTree, climbs, onTree, Rooted}
 use Rattle.tree.specs.Tree.Chain.{here, hop}
-use Rattle.tree.specs.Reach.{picked, visits, reach, one, count}
+use Rattle.tree.specs.Reach.{picked, visits, reach, count}
 use Rattle.tree.specs.Flood.{passesTo, Pass, flood, receivers}
 use Rattle.tree.proofs.Sums.{gate, total, gate-zero, gate-add, gate-if, gate-not, over-one, total-picked, count-append, length-count}
 use Rattle.tree.proofs.Counts.{hits, agreed-parent, kids, root-hits}
@@ -24,7 +24,7 @@ use Rattle.tree.proofs.Chains.{chain-low, chain-climbs, not-sooner, gro
 
 -- how often x has the call: by itself at p, who has it from f, and from what follows
 unfoldable calls : Tree → ℕ → ℕ → ℕ → ℕ → ℕ
-calls t d f p x = one (eqb p x) + count x (receivers (flood t d f p))
+calls t d f p x = bit (eqb p x) + count x (receivers (flood t d f p))
 
 -- ---- one hop of the flood
 receivers-append : (a b : List Pass) → receivers (a ++ b) ≡ receivers a ++ receivers b
@@ -51,11 +51,11 @@ floods t d p x (c ∷ cs) =
     let b = count-append x (receivers (flood t d p c)) (receivers rest) in
     omega arith
 
-step : (t : Tree) (d f p x : ℕ) → calls t (suc d) f p x ≡ one (eqb p x) + over (λ j. gate (passesTo t f p j) (calls t d p j x)) 0 (t .stations)
-step t d f p x = opened ∙ ap (one (eqb p x) +_)
+step : (t : Tree) (d f p x : ℕ) → calls t (suc d) f p x ≡ bit (eqb p x) + over (λ j. gate (passesTo t f p j) (calls t d p j x)) 0 (t .stations)
+step t d f p x = opened ∙ ap (bit (eqb p x) +_)
     (floods t d p x (picked (passesTo t f p) 0 (t .stations)) ∙ total-picked (λ j. calls t d p j x) (passesTo t f p) 0 (t .stations))
   where
-    opened : calls t (suc d) f p x ≡ one (eqb p x) + count x (receivers (visits (passing t d p) (picked (passesTo t f p) 0 (t .stations))))
+    opened : calls t (suc d) f p x ≡ bit (eqb p x) + count x (receivers (visits (passing t d p) (picked (passesTo t f p) 0 (t .stations))))
     opened = unfold calls flood in refl
 
 -- ---- small facts
@@ -63,7 +63,7 @@ zero-if : (m : ℕ) → ((m ≡ 0 → ⊥) → ⊥) → m ≡ 0
 zero-if zero h = refl
 zero-if (suc m) h = absurd (h (λ e. omega arith))
 
-one-not : (b : Bool) → (one b ≡ 0 → ⊥) → b ≡ true
+one-not : (b : Bool) → (bit b ≡ 0 → ⊥) → b ≡ true
 one-not true h = refl
 one-not false h = absurd (h refl)
 
@@ -76,7 +76,7 @@ plus-zero m n e = omega arith
 
 -- the way up from x meets p after d hops
 last : Tree → ℕ → ℕ → ℕ → ℕ
-last t zero p x = one (eqb p x)
+last t zero p x = bit (eqb p x)
 last t (suc d) p x = gate (agreed t (t .parent x) x) (last t d p (t .parent x))
 
 module _ (t : Tree) (w : Rooted t) where
@@ -115,13 +115,13 @@ module _ (t : Tree) (w : Rooted t) where
   unfolding hits
   down zero p x c a = none ∙ plus-zero _ _ (gate-zero (agreed t (t .parent x) x))
     where
-      none : calls t 0 (t .parent p) p x ≡ one (eqb p x)
+      none : calls t 0 (t .parent p) p x ≡ bit (eqb p x)
       none = unfold calls flood receivers count in omega arith
   down (suc d) p x c a =
       let below : (j : ℕ) → agreed t p j ≡ true → calls t d p j x ≡ hits t (suc d) j x = λ j e.
       let q = agreed-parent t p j e in subst (λ (y : ℕ). calls t d y j x ≡ hits t (suc d) j x) q (down d j x (kid-chain p j e c) (rw q e)) in
       step t d (t .parent p) p x
-      ∙ ap (one (eqb p x) +_) (over-ext _ _ (λ j. ap (λ (b : Bool). gate b (calls t d p j x)) (down-test p j c a) ∙ gate-if (agreed t p j) _ _ (below j)) 0 (t .stations)
+      ∙ ap (bit (eqb p x) +_) (over-ext _ _ (λ j. ap (λ (b : Bool). gate b (calls t d p j x)) (down-test p j c a) ∙ gate-if (agreed t p j) _ _ (below j)) 0 (t .stations)
       ∙ kids t (w .low) (suc d) p x)
 
   -- the call of a child of p, from p
@@ -156,9 +156,9 @@ module _ (t : Tree) (w : Rooted t) where
       (λ e. rw e (over-zero _ (λ j. gate-zero (eqb j (t .parent p))) 0 (t .stations)))
 
   both : {k : ℕ} (d f p x : ℕ) → Chain t p k
-      → calls t (suc d) f p x ≡ one (eqb p x) + (over (λ j. gate (agreed t p j && not (eqb j f)) (hits t (suc d) j x)) 0 (t .stations) + upwards d f p x)
+      → calls t (suc d) f p x ≡ bit (eqb p x) + (over (λ j. gate (agreed t p j && not (eqb j f)) (hits t (suc d) j x)) 0 (t .stations) + upwards d f p x)
   both d f p x c =
-      step t d f p x ∙ ap (one (eqb p x) +_) (over-ext _ _ (parted d f p x c) 0 (t .stations) ∙ over-add _ _ 0 (t .stations)
+      step t d f p x ∙ ap (bit (eqb p x) +_) (over-ext _ _ (parted d f p x c) 0 (t .stations) ∙ over-add _ _ 0 (t .stations)
       ∙ ap (over (λ j. gate (agreed t p j && not (eqb j f)) (hits t (suc d) j x)) 0 (t .stations) +_) (once-up d f p x c))
 
   -- the children but c, and c, are the children
@@ -206,9 +206,9 @@ module _ (t : Tree) (w : Rooted t) where
       subst (λ (i : ℕ). hits t i p x ≡ hits t (t .stations) p x) e (full (d - t .stations) p x c)
 
   -- ---- up: what p gets from its child c on, and what is below c, is the whole tree
-  over-kids : (d p x : ℕ) → one (eqb p x) + over (λ j. gate (agreed t p j) (hits t d j x)) 0 (t .stations) ≡ hits t (suc d) p x
+  over-kids : (d p x : ℕ) → bit (eqb p x) + over (λ j. gate (agreed t p j) (hits t d j x)) 0 (t .stations) ≡ hits t (suc d) p x
   unfolding hits
-  over-kids d p x = ap (one (eqb p x) +_) (kids t (w .low) d p x)
+  over-kids d p x = ap (bit (eqb p x) +_) (kids t (w .low) d p x)
 
   from-kid : {k : ℕ} (d p c x : ℕ) → Chain t p k → agreed t p c ≡ true
       → calls t (suc d) c p x + hits t (suc d) c x ≡ hits t (suc (suc d)) p x + gate (agreed t (t .parent p) p) (calls t d p (t .parent p) x)
@@ -268,18 +268,18 @@ module _ (t : Tree) (w : Rooted t) where
 
     -- ---- the theorems, for any allowance of at least 2 n hops
     module _ (c : ℕ) (o : OnTree t c) (d : ℕ) (enough : t .stations + t .stations ≤ d) where
-      pub flood-reaches : (x : ℕ) → count x (c ∷ receivers (flood t d nil c)) ≡ one (onTree t x)
+      pub flood-reaches : (x : ℕ) → count x (c ∷ receivers (flood t d nil c)) ≡ bit (onTree t x)
       unfolding count onTree
       flood-reaches x =
           let lt = chain-short t w (o .chain) in
           opened ∙ start d c x (o .chain) (omega arith) ∙ root-hits t w (t .stations) x
         where
-          opened : one (eqb c x) + count x (receivers (flood t d nil c)) ≡ calls t d nil c x
+          opened : bit (eqb c x) + count x (receivers (flood t d nil c)) ≡ calls t d nil c x
           opened = unfold calls in refl
 
       pub flood-copies : suc (length (flood t d nil c)) ≡ length (reach t)
       unfolding reach onTree
       flood-copies =
           ap suc (sym (length-receivers (flood t d nil c)))
-          ∙ length-count (t .stations) (c ∷ receivers (flood t d nil c)) (λ x le. flood-reaches x ∙ ap one (off-tree t w (t .stations) x le))
+          ∙ length-count (t .stations) (c ∷ receivers (flood t d nil c)) (λ x le. flood-reaches x ∙ ap bit (off-tree t w (t .stations) x le))
           ∙ over-ext _ _ flood-reaches 0 (t .stations) ∙ sym (visit-length t w (t .stations) 0)

@@ -8,10 +8,10 @@ use native.Mathlib.Omega.{arith}
 use lib.ListN.{length}
 use lib.Dec.{eqb}
 use borrow.Author.Tests.{eq-eqb, ne-eqb}
-use Rattle.bits.specs.Sums.{over}
+use Rattle.bits.specs.Sums.{bit, over}
 use Rattle.bits.proofs.Sums.{over-ext, over-zero, over-add}
 use Rattle.bits.proofs.Cases.{by-eq, eqb-sym}
-use Rattle.tree.specs.Reach.{picked, keep, one, count}
+use Rattle.tree.specs.Reach.{picked, keep, count}
 
 -- n, if the test holds
 abbrev pub gate : Bool → ℕ → ℕ
@@ -28,11 +28,11 @@ pub gate-zero : (b : Bool) → gate b 0 ≡ 0
 gate-zero true = refl
 gate-zero false = refl
 
-pub gate-one : (b : Bool) → gate b 1 ≡ one b
+pub gate-one : (b : Bool) → gate b 1 ≡ bit b
 gate-one true = refl
 gate-one false = refl
 
-pub gate-swap : (a b : Bool) → gate a (one b) ≡ gate b (one a)
+pub gate-swap : (a b : Bool) → gate a (bit b) ≡ gate b (bit a)
 gate-swap true true = refl
 gate-swap true false = refl
 gate-swap false true = refl
@@ -55,11 +55,11 @@ pub gate-not : (b : Bool) (m : ℕ) → (gate b m ≡ 0 → ⊥) → (b ≡ true
 gate-not true m h = (refl, h)
 gate-not false m h = absurd (h refl)
 
-pub one-le : (b : Bool) → one b ≤ 1
+pub one-le : (b : Bool) → bit b ≤ 1
 one-le true = omega arith
 one-le false = omega arith
 
-pub one-mono : (a b : Bool) → (a ≡ true → b ≡ true) → one a ≤ one b
+pub one-mono : (a b : Bool) → (a ≡ true → b ≡ true) → bit a ≤ bit b
 one-mono true b h = rw (h refl) (omega arith)
 one-mono false b h = omega arith
 
@@ -108,7 +108,7 @@ length-count n [] off = sym (over-zero (λ x. 0) (λ x. refl) 0 n)
 length-count n (y ∷ l) off =
     let inside : y < n = lt-of-not-le (λ le. let z : 1 + count y l ≡ 0 = rw (eq-eqb y y refl) at (off y le) in omega arith) in
     let rest = length-count n l (λ x le. let z = off x le in omega arith) in
-    let this : over (λ x. one (eqb y x)) 0 n ≡ 1 =
-    over-ext _ _ (λ x. ap one (eqb-sym y x) ∙ sym (gate-one (eqb x y))) 0 n ∙ over-one (λ x. 1) y 0 n (omega arith) (omega arith) in
-    let sum = over-add (λ x. one (eqb y x)) (λ x. count x l) 0 n in
+    let this : over (λ x. bit (eqb y x)) 0 n ≡ 1 =
+    over-ext _ _ (λ x. ap bit (eqb-sym y x) ∙ sym (gate-one (eqb x y))) 0 n ∙ over-one (λ x. 1) y 0 n (omega arith) (omega arith) in
+    let sum = over-add (λ x. bit (eqb y x)) (λ x. count x l) 0 n in
     omega arith

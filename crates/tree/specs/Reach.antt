@@ -3,6 +3,7 @@ use mathlib.Core.List.{List, [], _∷_, _++_}
 use mathlib.Core.Bool.{Bool, true, false}
 use Prim.Native.Nat.{ℕ, zero, suc, _+_}
 use lib.Dec.{eqb}
+use Rattle.bits.specs.Sums.{bit}
 use Rattle.tree.specs.declared.Reach.{Reach}
 use Rattle.tree.specs.Tree.{Tree, agreed}
 
@@ -34,15 +35,10 @@ unfoldable pub reach : Tree → List Reach
 reach t = visit t (t .stations) 0 (t .root)
 
 -- the stations of a list, and how often x stands there
-unfoldable pub reached : List Reach → List ℕ
-reached [] = []
-reached (l ∷ ls) = l .station ∷ reached ls
-
--- 1 for true
-abbrev pub one : Bool → ℕ
-one true = 1
-one false = 0
+unfoldable pub stationsIn : List Reach → List ℕ
+stationsIn [] = []
+stationsIn (l ∷ ls) = l .station ∷ stationsIn ls
 
 unfoldable pub count : ℕ → List ℕ → ℕ
 count x [] = 0
-count x (y ∷ l) = one (eqb y x) + count x l
+count x (y ∷ l) = bit (eqb y x) + count x l

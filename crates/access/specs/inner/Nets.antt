@@ -11,7 +11,7 @@ use Rattle.net.specs.View.{view}
 
 -- the first field says it all; the others follow from it, and are here for the callers' arithmetic
 pub record IsNet (l : List ℕ) : Type 0 where
-  pub good : shaped l ≡ true
+  pub shape : shaped l ≡ true
   pub long : length l ≡ netLength
   pub stationsAt : view l .stations ≡ stations l
   pub groupsAt : view l .groups ≡ groups l

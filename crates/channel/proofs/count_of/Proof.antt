@@ -7,7 +7,8 @@ use native.Mathlib.Omega.{arith}
 use borrow.Author.Needs.{needs}
 use lib.ListN.{take, length}
 use lib.Seq.{take-length}
-use Rattle.protocol.specs.Entries.{bit, isOf, countOf}
+use Rattle.bits.specs.Sums.{bit}
+use Rattle.protocol.specs.Entries.{isOf, countOf}
 use Rattle.channel.specs.Messages.{messagesOf}
 use Rattle.channel.proofs.Messages.{length-messages, count-turn}
 use Rattle.channel.proofs.count_of.Statement.{statement}

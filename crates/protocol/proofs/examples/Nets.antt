@@ -72,11 +72,11 @@ joined-by c cs p q t there back rest = by-bool (eqb p (c .0))
     (λ b. by-eq q (c .0) (back (eqb-true _ _ b)) (λ n. rest (sym (with-miss (joined cs p) (c .0) q n) ∙ (rw (a, b) at t))))
     (λ b. rest (rw (a, b) at t)))
 
-cables-good : (n : ℕ) (cs : List Cable) → every (cableFits n) cs ≡ true → (p q : ℕ) → has (joined cs p) q ≡ true
+cables-fits : (n : ℕ) (cs : List Cable) → every (cableFits n) cs ≡ true → (p q : ℕ) → has (joined cs p) q ≡ true
     → (p < n) × (q < n) × (p ≢ q) × (has (joined cs q) p ≡ true)
 unfolding every cableFits joined
-cables-good n [] f p q t = clash t (has-zero q)
-cables-good n (c ∷ cs) f p q t =
+cables-fits n [] f p q t = clash t (has-zero q)
+cables-fits n (c ∷ cs) f p q t =
     let a : ltb (c .0) n ≡ true = search (and-l, and-r) in
     let b : ltb (c .1) n ≡ true = search (and-l, and-r) in
     let d : not (eqb (c .0) (c .1)) ≡ true = search (and-l, and-r) in
@@ -87,7 +87,7 @@ cables-good n (c ∷ cs) f p q t =
     joined-by c cs p q t
     (λ i j. rw (i, j) (x, y, z, joined-back c cs z))
     (λ i j. rw (i, j) (y, x, (λ e. z (sym e)), joined-there c cs))
-    (λ j. let w = cables-good n cs r p q j in (w .0, w .1, w .2, joined-keeps c cs q p (w .3)))
+    (λ j. let w = cables-fits n cs r p q j in (w .0, w .1, w .2, joined-keeps c cs q p (w .3)))
 
 module _ (n : ℕ) (G : Group) (f : groupFits n G ≡ true) where
   group-named : (1 ≤ length (G .name)) × (length (G .name) ≤ longestName)
@@ -107,9 +107,9 @@ module _ (n : ℕ) (G : Group) (f : groupFits n G ≡ true) where
   unfolding groupFits
   group-root = let a : ltb (G .root) n ≡ true = search (and-l, and-r) in ltb-true _ _ a
 
-plan-good : (gs : List Group) (n : ℕ) (cs : List Cable) → planFits gs n cs ≡ true → ShapedPlan (planBy gs n cs)
+plan-fits : (gs : List Group) (n : ℕ) (cs : List Cable) → planFits gs n cs ≡ true → ShapedPlan (planBy gs n cs)
 unfolding planFits planBy
-plan-good gs n cs f =
+plan-fits gs n cs f =
     let a : leb 1 n ≡ true = search (and-l, and-r) in
     let b : leb n mostStations ≡ true = search (and-l, and-r) in
     let c : leb 1 (length gs) ≡ true = search (and-l, and-r) in
@@ -127,7 +127,7 @@ plan-good gs n cs f =
       letters = λ g i. by-lt g (length gs) (λ l. group-letters n _ (fits g l) i) (λ l. rw (past gs g l) (omega arith));
       distinct = differ-at gs h;
       roots = λ g l. group-root n _ (fits g l);
-      cables = cables-good n cs k;
+      cables = cables-fits n cs k;
       noName = λ g l. ap (λ (G : Group). G .name) (past gs g l);
       noRoot = λ g l. ap (λ (G : Group). G .root) (past gs g l);
     }
@@ -142,9 +142,9 @@ near-of nb r t n = by-or _ _ t (λ e. absurd (n (eqb-true _ _ e))) (λ h. h)
 mask-near : (nb m : ℕ) → below mostStations m ≡ true → within mostStations m nb ≡ true → (x : ℕ) → has m x ≡ true → has nb x ≡ true
 mask-near nb m a b x t = within-has mostStations m nb x b (below-has mostStations m x a t) t
 
-entry-good : (nb r p : ℕ) (e : Entry) → entryFits nb r p e ≡ true → ShapedEntry nb r p e
+entry-fits : (nb r p : ℕ) (e : Entry) → entryFits nb r p e ≡ true → ShapedEntry nb r p e
 unfolding entryFits
-entry-good nb r p e f =
+entry-fits nb r p e f =
     let a : (eqb (e .parent) nil || has nb (e .parent)) ≡ true = search (and-l, and-r) depth 9 in
     let b : (eqb (e .tentative) nil || has nb (e .tentative)) ≡ true = search (and-l, and-r) depth 9 in
     let c : (not (eqb p r) || (eqb (e .parent) nil && eqb (e .tentative) nil)) ≡ true = search (and-l, and-r) depth 9 in
@@ -164,9 +164,9 @@ entry-good nb r p e f =
       clockFits = leb-true _ _ k;
     }
 
-message-good : (n : ℕ) (m : Message) → messageFits n m ≡ true → ShapedMessage n m
+message-fits : (n : ℕ) (m : Message) → messageFits n m ≡ true → ShapedMessage n m
 unfolding messageFits
-message-good n m f =
+message-fits n m f =
     let a : (eqb (m .kind) request || eqb (m .kind) reply) ≡ true = search (and-l, and-r) in
     let b : ltb (m .group) n ≡ true = search (and-l, and-r) in
     let c : leb (m .connected) 1 ≡ true = search (and-l, and-r) in
@@ -182,17 +182,17 @@ message-good n m f =
 
 pub proper-shaped : (S : Start) → proper S ≡ true → Shaped (net S)
 unfolding proper net run
-proper-shaped (new gs n cs) t = fresh-shaped (planBy gs n cs) (plan-good gs n cs t)
+proper-shaped (new gs n cs) t = fresh-shaped (planBy gs n cs) (plan-fits gs n cs t)
 proper-shaped (S knowing k) t =
     let a : proper S ≡ true = search (and-l, and-r) in
     let b : ltb (k .0) (net S .groups) ≡ true = search (and-l, and-r) in
     let c : ltb (k .1) (net S .stations) ≡ true = search (and-l, and-r) in
     let d : entryFits (net S .neighbours (k .1)) (net S .root (k .0)) (k .1) (k .2) ≡ true = search (and-l, and-r) in
-    entry-shaped (net S) (proper-shaped S a) _ _ (k .2) (ltb-true _ _ b) (ltb-true _ _ c) (entry-good _ _ _ (k .2) d)
+    entry-shaped (net S) (proper-shaped S a) _ _ (k .2) (ltb-true _ _ b) (ltb-true _ _ c) (entry-fits _ _ _ (k .2) d)
 proper-shaped (S carrying c) t =
     let a : proper S ≡ true = search (and-l, and-r) in
     let b : has (net S .neighbours (c .0)) (c .1) ≡ true = search (and-l, and-r) in
     let d : ltb (length (net S .channel (c .0) (c .1))) capacity ≡ true = search (and-l, and-r) in
     let e : messageFits (net S .groups) (c .2) ≡ true = search (and-l, and-r) in
-    send-shaped (net S) (proper-shaped S a) _ _ (c .2) b (ltb-true _ _ d) (message-good _ (c .2) e)
+    send-shaped (net S) (proper-shaped S a) _ _ (c .2) b (ltb-true _ _ d) (message-fits _ (c .2) e)
 proper-shaped (S having ts) t = let a : proper S ≡ true = search and-l in run-shaped (net S) (scriptOf ts) (proper-shaped S a) _

@@ -9,10 +9,11 @@ use native.Mathlib.Omega.{arith}
 use lib.Dec.{eqb}
 use lib.ListN.{length, getD}
 use borrow.Author.Tests.{eq-eqb, ne-eqb}
+use Rattle.bits.specs.Sums.{bit}
 use Rattle.bits.proofs.Cases.{by-bool}
 use Rattle.protocol.specs.declared.Message.{Message}
 use Rattle.protocol.specs.Net.{reply, upd2, removeAt}
-use Rattle.protocol.specs.Entries.{bit, isOf, countOf}
+use Rattle.protocol.specs.Entries.{isOf, countOf}
 use Rattle.protocol.specs.Shaped.{All, none, both}
 use Rattle.protocol.proofs.laws.Maps.{upd2-all}
 

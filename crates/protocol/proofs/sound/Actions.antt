@@ -9,13 +9,14 @@ use native.Mathlib.Omega.{arith}
 use lib.Dec.{eqb, ltb}
 use lib.ListN.{length}
 use borrow.Author.Tests.{eqb-true, eqb-false, ltb-true, not-true}
+use Rattle.bits.specs.Sums.{bit}
 use Rattle.bits.specs.Masks.{has}
 use Rattle.bits.proofs.Cases.{by-bool, by-eq, and-l, and-r, ne-of}
 use Rattle.bits.proofs.Masks.{with-hit}
 use Rattle.protocol.specs.declared.Entry.{Entry}
 use Rattle.protocol.specs.declared.Message.{Message}
 use Rattle.protocol.specs.Net.{Net, nil, request, reply, upd, upd2, setEntry, setChannel, setRoute, removeAt, send, takeAt, station?, near?}
-use Rattle.protocol.specs.Entries.{joins, connected, withChild, requestOf, replyOf, adopts, hearing, bit, isOf, countOf, underway}
+use Rattle.protocol.specs.Entries.{joins, connected, withChild, requestOf, replyOf, adopts, hearing, isOf, countOf, underway}
 use Rattle.protocol.specs.Rules.{noMessage, oldest, tick, ask, refresh, answered, heard, deliver, lose, giveUp, dropChild, member, route, rules}
 use Rattle.protocol.specs.Steps.{step}
 use Rattle.protocol.specs.Shaped.{All, none, both, Shaped}

@@ -7,12 +7,13 @@ use mathlib.Core.List.{List}
 use Prim.Native.Nat.{ℕ, _≤_}
 use native.Mathlib.Nat.{le-trans}
 use lib.Dec.{eqb}
+use Rattle.bits.specs.Sums.{bit}
 use Rattle.bits.specs.Masks.{has}
 use Rattle.bits.proofs.Cases.{by-eq}
 use Rattle.protocol.specs.declared.Entry.{Entry}
 use Rattle.protocol.specs.declared.Message.{Message}
 use Rattle.protocol.specs.Net.{nil, reply, upd}
-use Rattle.protocol.specs.Entries.{bit, underway}
+use Rattle.protocol.specs.Entries.{underway}
 use Rattle.protocol.specs.Shaped.{All}
 use Rattle.protocol.proofs.laws.Maps.{upd-hit, upd-miss, upd-all, All-map}
 use Rattle.protocol.proofs.sound.Leads.{Leads}

@@ -10,6 +10,7 @@ use native.Mathlib.Nat.{le-refl, le-trans}
 use native.Mathlib.Omega.{arith}
 use lib.Dec.{eqb}
 use borrow.Author.Tests.{eqb-true, eq-eqb, ne-eqb}
+use Rattle.bits.specs.Sums.{bit}
 use Rattle.bits.specs.Masks.{has, without}
 use Rattle.bits.proofs.Cases.{by-bool, by-eq, by-or, or-r, or-false-l, or-false-r, of-ne, and-l, and-both, clash}
 use Rattle.bits.proofs.Masks.{has-zero, with-hit}
@@ -18,7 +19,7 @@ use Rattle.tree.specs.Tree.Chain.{here, hop}
 use Rattle.protocol.specs.declared.Entry.{Entry}
 use Rattle.protocol.specs.declared.Message.{Message}
 use Rattle.protocol.specs.Net.{Net, nil, reply, upd}
-use Rattle.protocol.specs.Entries.{withMember, withChildren, joins, connected, ticked, waitsOn, stopsWaiting, asking, withChild, withoutChild, leave, stayOrLeave, adopting, bit, underway}
+use Rattle.protocol.specs.Entries.{withMember, withChildren, joins, connected, ticked, waitsOn, stopsWaiting, asking, withChild, withoutChild, leave, stayOrLeave, adopting, underway}
 use Rattle.protocol.specs.Calls.{treeOf}
 use Rattle.protocol.specs.Shaped.{All, Shaped}
 use Rattle.protocol.specs.Sound.{Sound}

@@ -8,13 +8,14 @@ use Prim.Native.Nat.{ℕ, _≤_, _<_}
 use native.Mathlib.Nat.{le-trans, le-of-eq}
 use native.Mathlib.Omega.{arith}
 use lib.Dec.{eqb}
+use Rattle.bits.specs.Sums.{bit}
 use Rattle.bits.specs.Masks.{has, with, without}
 use Rattle.bits.proofs.Cases.{by-bool, by-eq, by-or, ne-of, of-ne, or-r}
 use Rattle.bits.proofs.Masks.{with-keeps, without-miss}
 use Rattle.protocol.specs.declared.Entry.{Entry}
 use Rattle.protocol.specs.declared.Message.{Message}
 use Rattle.protocol.specs.Net.{nil, reply, upd}
-use Rattle.protocol.specs.Entries.{bit, underway}
+use Rattle.protocol.specs.Entries.{underway}
 use Rattle.protocol.specs.Shaped.{All}
 use Rattle.protocol.proofs.laws.Maps.{upd-hit, upd-miss, All-map, All-map2}
 use Rattle.protocol.proofs.laws.Messages.{no-replies}

@@ -5,11 +5,12 @@ use mathlib.Core.Bool.{Bool, true}
 use mathlib.Core.List.{List}
 use Prim.Native.Nat.{ℕ, _+_, _≤_}
 use native.Mathlib.Omega.{arith}
+use Rattle.bits.specs.Sums.{bit}
 use Rattle.bits.specs.Masks.{has}
 use Rattle.protocol.specs.declared.Entry.{Entry}
 use Rattle.protocol.specs.declared.Message.{Message}
 use Rattle.protocol.specs.Net.{request, reply}
-use Rattle.protocol.specs.Entries.{bit, isOf, countOf, underway}
+use Rattle.protocol.specs.Entries.{isOf, countOf, underway}
 use Rattle.protocol.specs.Shaped.{All}
 use Rattle.protocol.proofs.laws.Maps.{upd2-all, All-snoc, All-remove}
 use Rattle.protocol.proofs.laws.Messages.{bit-le, isOf-kind, isOf-group, count-snoc, taken, sent, taken-le, sent-same}

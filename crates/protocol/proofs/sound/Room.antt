@@ -10,12 +10,12 @@ use lib.Dec.{eqb}
 use lib.ListN.{length}
 use borrow.Author.Tests.{eqb-true, eq-eqb, ne-eqb, ltb-true, lt-ltb, not-true}
 use Rattle.bits.specs.Masks.{has}
-use Rattle.bits.specs.Sums.{sumBelow}
+use Rattle.bits.specs.Sums.{bit, sumBelow}
 use Rattle.bits.proofs.Cases.{by-bool, by-eq, and-l, and-r, or-l, or-r}
 use Rattle.bits.proofs.Sums.{over-strict, over-const}
 use Rattle.protocol.specs.declared.Message.{Message}
 use Rattle.protocol.specs.Net.{Net, capacity, request, reply, group?}
-use Rattle.protocol.specs.Entries.{bit, isOf, countOf, underway}
+use Rattle.protocol.specs.Entries.{isOf, countOf, underway}
 use Rattle.protocol.specs.Rules.{Rule, oldest, room?, tick, ask, refresh, deliver, lose, giveUp, dropChild, member, route, rules}
 use Rattle.protocol.specs.Steps.{verdict, rule, action?, outcome}
 use Rattle.protocol.specs.Apart.{only, groupIn}

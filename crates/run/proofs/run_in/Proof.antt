@@ -38,14 +38,14 @@ abbrev script : tie.At-loop Inv-loop μ-loop → List ℕ
 script c = start c .args .script .now
 
 shape : (c : tie.At-loop Inv-loop μ-loop) → Shaped (view (net₀ c))
-shape c = seen _ (start c .pre .0 .good)
+shape c = seen _ (start c .pre .0 .shape)
 
 no-tally-requires : tie.Need-no-tally-requires Inv-loop μ-loop
 no-tally-requires c κs = search needs
 
 loop-holds : tie.Need-loop-holds Inv-loop μ-loop
 unfolding after
-loop-holds c = (omega arith, sym (view-bytes _ (c .before .before .before .pre .0 .good)), c .no-tally .ensures, refl)
+loop-holds c = (omega arith, sym (view-bytes _ (c .before .before .before .pre .0 .shape)), c .no-tally .ensures, refl)
 
 mul-step-in : tie.Need-mul-step-in Inv-loop μ-loop
 mul-step-in c = omega arith

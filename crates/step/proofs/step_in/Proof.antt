@@ -1,10 +1,8 @@
-use mathlib.Core.Path.{refl, sym, subst}
+use mathlib.Core.Path.{refl}
 use mathlib.Core.Logic.{⊎-elim}
-use Prim.Native.Nat.{ℕ}
 use Rattle.protocol.specs.Rules.{rules}
 use Rattle.protocol.specs.Steps.{rule}
-use Rattle.step.specs.Steps.{StepEnd}
-use Rattle.step.proofs.Ends.{takes, unknown, no-action}
+use Rattle.step.proofs.Ends.{arm, unknown, no-action}
 use borrow.Author.Needs.{needs}
 use Rattle.step.proofs.step_in.Statement.{statement}
 use Rattle.step.proofs.step_in.Tie as tie
@@ -44,81 +42,63 @@ same-length c = search needs
 
 returns : tie.Need-returns
 unfolding rule rules
-returns c = let a = c .before .before .before .before .before .before .args in
-    subst (λ (k : ℕ). StepEnd (a .net .now) k (a .a) (a .b) (a .c) (c .before .before .tick .result) (c .before .before .tick .last .0)) (sym (c .before .before .before .before .match .keys1))
-    (takes (a .net .now) (c .before .before .before .before .before .before .pre) 1 (a .a) (a .b) (a .c) refl (c .before .before .tick .ensures))
+returns c = let d = c .before .before in let s = d .before .before .before .before in arm 1 refl _ (s .pre) _ _ _ _ (d .before .before .match .keys1) (d .tick .ensures)
 
 same-length-2 : tie.Need-same-length-2
 same-length-2 c = search needs
 
 returns-2 : tie.Need-returns-2
 unfolding rule rules
-returns-2 c = let a = c .before .before .before .before .before .before .args in
-    subst (λ (k : ℕ). StepEnd (a .net .now) k (a .a) (a .b) (a .c) (c .before .before .ask .result) (c .before .before .ask .last .0)) (sym (c .before .before .before .before .match .keys2))
-    (takes (a .net .now) (c .before .before .before .before .before .before .pre) 2 (a .a) (a .b) (a .c) refl (c .before .before .ask .ensures))
+returns-2 c = let d = c .before .before in let s = d .before .before .before .before in arm 2 refl _ (s .pre) _ _ _ _ (d .before .before .match .keys2) (d .ask .ensures)
 
 same-length-3 : tie.Need-same-length-3
 same-length-3 c = search needs
 
 returns-3 : tie.Need-returns-3
 unfolding rule rules
-returns-3 c = let a = c .before .before .before .before .before .before .args in
-    subst (λ (k : ℕ). StepEnd (a .net .now) k (a .a) (a .b) (a .c) (c .before .before .refresh .result) (c .before .before .refresh .last .0)) (sym (c .before .before .before .before .match .keys3))
-    (takes (a .net .now) (c .before .before .before .before .before .before .pre) 3 (a .a) (a .b) (a .c) refl (c .before .before .refresh .ensures))
+returns-3 c = let d = c .before .before in let s = d .before .before .before .before in arm 3 refl _ (s .pre) _ _ _ _ (d .before .before .match .keys3) (d .refresh .ensures)
 
 same-length-4 : tie.Need-same-length-4
 same-length-4 c = search needs
 
 returns-4 : tie.Need-returns-4
 unfolding rule rules
-returns-4 c = let a = c .before .before .before .before .before .before .args in
-    subst (λ (k : ℕ). StepEnd (a .net .now) k (a .a) (a .b) (a .c) (c .before .before .deliver .result) (c .before .before .deliver .last .0)) (sym (c .before .before .before .before .match .keys4))
-    (takes (a .net .now) (c .before .before .before .before .before .before .pre) 4 (a .a) (a .b) (a .c) refl (c .before .before .deliver .ensures))
+returns-4 c = let d = c .before .before in let s = d .before .before .before .before in arm 4 refl _ (s .pre) _ _ _ _ (d .before .before .match .keys4) (d .deliver .ensures)
 
 same-length-5 : tie.Need-same-length-5
 same-length-5 c = search needs
 
 returns-5 : tie.Need-returns-5
 unfolding rule rules
-returns-5 c = let a = c .before .before .before .before .before .before .args in
-    subst (λ (k : ℕ). StepEnd (a .net .now) k (a .a) (a .b) (a .c) (c .before .before .lose .result) (c .before .before .lose .last .0)) (sym (c .before .before .before .before .match .keys5))
-    (takes (a .net .now) (c .before .before .before .before .before .before .pre) 5 (a .a) (a .b) (a .c) refl (c .before .before .lose .ensures))
+returns-5 c = let d = c .before .before in let s = d .before .before .before .before in arm 5 refl _ (s .pre) _ _ _ _ (d .before .before .match .keys5) (d .lose .ensures)
 
 same-length-6 : tie.Need-same-length-6
 same-length-6 c = search needs
 
 returns-6 : tie.Need-returns-6
 unfolding rule rules
-returns-6 c = let a = c .before .before .before .before .before .before .args in
-    subst (λ (k : ℕ). StepEnd (a .net .now) k (a .a) (a .b) (a .c) (c .before .before .give-up .result) (c .before .before .give-up .last .0)) (sym (c .before .before .before .before .match .keys6))
-    (takes (a .net .now) (c .before .before .before .before .before .before .pre) 6 (a .a) (a .b) (a .c) refl (c .before .before .give-up .ensures))
+returns-6 c = let d = c .before .before in let s = d .before .before .before .before in arm 6 refl _ (s .pre) _ _ _ _ (d .before .before .match .keys6) (d .give-up .ensures)
 
 same-length-7 : tie.Need-same-length-7
 same-length-7 c = search needs
 
 returns-7 : tie.Need-returns-7
 unfolding rule rules
-returns-7 c = let a = c .before .before .before .before .before .before .args in
-    subst (λ (k : ℕ). StepEnd (a .net .now) k (a .a) (a .b) (a .c) (c .before .before .drop-child .result) (c .before .before .drop-child .last .0)) (sym (c .before .before .before .before .match .keys7))
-    (takes (a .net .now) (c .before .before .before .before .before .before .pre) 7 (a .a) (a .b) (a .c) refl (c .before .before .drop-child .ensures))
+returns-7 c = let d = c .before .before in let s = d .before .before .before .before in arm 7 refl _ (s .pre) _ _ _ _ (d .before .before .match .keys7) (d .drop-child .ensures)
 
 same-length-8 : tie.Need-same-length-8
 same-length-8 c = search needs
 
 returns-8 : tie.Need-returns-8
 unfolding rule rules
-returns-8 c = let a = c .before .before .before .before .before .before .args in
-    subst (λ (k : ℕ). StepEnd (a .net .now) k (a .a) (a .b) (a .c) (c .before .before .member .result) (c .before .before .member .last .0)) (sym (c .before .before .before .before .match .keys8))
-    (takes (a .net .now) (c .before .before .before .before .before .before .pre) 8 (a .a) (a .b) (a .c) refl (c .before .before .member .ensures))
+returns-8 c = let d = c .before .before in let s = d .before .before .before .before in arm 8 refl _ (s .pre) _ _ _ _ (d .before .before .match .keys8) (d .member .ensures)
 
 same-length-9 : tie.Need-same-length-9
 same-length-9 c = search needs
 
 returns-9 : tie.Need-returns-9
 unfolding rule rules
-returns-9 c = let a = c .before .before .before .before .before .before .args in
-    subst (λ (k : ℕ). StepEnd (a .net .now) k (a .a) (a .b) (a .c) (c .before .before .route .result) (c .before .before .route .last .0)) (sym (c .before .before .before .before .match .keys9))
-    (takes (a .net .now) (c .before .before .before .before .before .before .pre) 9 (a .a) (a .b) (a .c) refl (c .before .before .route .ensures))
+returns-9 c = let d = c .before .before in let s = d .before .before .before .before in arm 9 refl _ (s .pre) _ _ _ _ (d .before .before .match .keys9) (d .route .ensures)
 
 returns-10 : tie.Need-returns-10
 returns-10 c = let a = c .before .before .before .args in

@@ -19,7 +19,7 @@ unfolding view
 returns c = let s = c .before .before .before in
     let l = s .args .net .now in
     let e = c .root .ensures ∙ ap (root l) (c .before .wide .ensures .0) ∙ sym (plan-root l (s .args .g) (omega arith)) in
-    (e, rw e (seen l (s .pre .0 .good) .plan .roots (s .args .g) (s .pre .1)))
+    (e, rw e (seen l (s .pre .0 .shape) .plan .roots (s .args .g) (s .pre .1)))
 
 pub root-of-spec : {M : Type 1} → statement M
 root-of-spec = tie.close (tie.spec wide-requires root-requires returns)

@@ -1,17 +1,17 @@
+use lib.Dec.{ltb}
+use Rattle.protocol.specs.Net.{capacity}
+use Rattle.net.specs.View.{view}
+use Rattle.net.proofs.Saved.{seen}
+use Rattle.action.proofs.InRange.{cable-in}
 use borrow.Author.Needs.{needs}
 use Rattle.action.proofs.operands.of_position.Statement.{statement}
 use Rattle.action.proofs.operands.of_position.Tie as tie
-use Rattle.action.proofs.operands.of_position.Reads as reads
-use Rattle.action.proofs.operands.of_position.Lts as lts
-use Rattle.access.proofs.read.near.Reads as near-reads
 
--- src/operands.rt:38:5
 near-requires : tie.Need-near-requires
 near-requires c κs = search needs
 
--- src/operands.rt:34:1
 returns : tie.Need-returns
-returns c = cc
+returns c = let a = c .before .before .args in (cc, λ t. cable-in (view (a .net .now)) (seen _ (c .before .before .pre .shape)) (a .s) (a .d) (ltb (a .i) capacity) cc)
 
 pub of-position-spec : {M : Type 1} → statement M
 of-position-spec = tie.close (tie.spec near-requires returns)

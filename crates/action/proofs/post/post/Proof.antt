@@ -2,39 +2,42 @@ use mathlib.Core.Path.{_≡_, sym, subst, _∙_}
 use mathlib.Core.List.{List}
 use Prim.Native.Nat.{ℕ, _<_}
 use lib.ListN.{length}
+use borrow.Author.Tests.{ltb-true}
 use Rattle.protocol.specs.Net.{Net, capacity, setEntry, send}
+use Rattle.protocol.specs.Rules.{room?}
 use Rattle.net.specs.View.{view}
 use Rattle.net.specs.Encode.{bytesOf}
-use Rattle.access.specs.Nets.{IsNet}
+use Rattle.access.specs.inner.Nets.{IsNet}
 use Rattle.access.proofs.Laws.{is-net-of}
 use borrow.Author.Needs.{needs}
 use Rattle.action.proofs.post.post.Statement.{statement}
 use Rattle.action.proofs.post.post.Tie as tie
-use Rattle.action.proofs.post.post.Reads as reads
-use Rattle.action.proofs.post.post.Lts as lts
-use Rattle.access.proofs.change.set_entry.Reads as put-entry-reads
-use Rattle.access.proofs.change.send.Reads as send-to-reads
 
--- src/post.rt:20:5
+abbrev N : tie.Start → Net
+N s = view (s .args .net .now)
+
+-- the bytes once the entry is put
+put : (x : tie.After-set-entry) → let s = x .before .before .before in let a = s .args in
+    (IsNet (x .set-entry .last .0)) × (view (x .set-entry .last .0) ≡ setEntry (N s) (a .g) (a .p) (a .e))
+put x = is-net-of _ _ (x .before .before .before .pre .1 .0 .between) (x .set-entry .ensures)
+
 set-entry-requires : tie.Need-set-entry-requires
 set-entry-requires c κs = search needs
 
--- src/post.rt:21:5
 send-requires : tie.Need-send-requires
-unfolding setEntry
-send-requires c κs = let a = c .before .before .before .before .before .before .args in
-    let P = c .before .before .before .before .before .before .pre .1 in
-    let w = is-net-of _ _ (P .between) (c .before .before .before .set-entry .ensures) in
-    (w .0, subst (λ (M : Net). (a .p < M .stations) × (a .q < M .stations) × (length (M .channel (a .p) (a .q)) < capacity)) (sym (w .1)) (P .from, P .to, P .room))
+unfolding setEntry room?
+send-requires c κs = let s = c .before .before .before .before .before .before in
+    let P = s .pre .1 .0 in
+    let w = put (c .before .before .before) in
+    (w .0, subst (λ (M : Net). (s .args .p < M .stations) × (s .args .q < M .stations) × (length (M .channel (s .args .p) (s .args .q)) < capacity)) (sym (w .1)) (P .from, P .to, ltb-true _ _ (s .pre .1 .1)))
 
--- src/post.rt:14:1
 same-length : tie.Need-same-length
 same-length c = search needs
 
--- src/post.rt:14:1
 returns : tie.Need-returns
-returns c = let a = c .before .before .before .before .before .before .before .before .before .args in
-    c .before .before .send .ensures ∙ (λ i. bytesOf (send (is-net-of _ _ (c .before .before .before .before .before .before .before .before .before .pre .1 .between) (c .before .before .before .before .before .before .set-entry .ensures) .1 i) (a .p) (a .q) (a .m)))
+returns c = let x = c .before .before .before .before .before .before in
+    let a = x .before .before .before .args in
+    c .before .before .send .ensures ∙ (λ i. bytesOf (send (put x .1 i) (a .p) (a .q) (a .m)))
 
 pub post-spec : {M : Type 1} → statement M
 post-spec = tie.close (tie.spec set-entry-requires send-requires same-length returns)

@@ -1,0 +1,2 @@
+-- What only the actions' own contracts speak of.
+pub mod Ends

@@ -1,0 +1,47 @@
+-- The oldest message from s to d, and the net once it is taken out.
+use mathlib.Core.Path.{_≡_, sym, subst}
+use mathlib.Core.Bool.{true}
+use mathlib.Core.List.{List}
+use Prim.Native.Nat.{ℕ, _<_}
+use borrow.Author.Tests.{lt-ltb}
+use Rattle.protocol.specs.declared.Entry.{Entry}
+use Rattle.protocol.specs.Net.{Net, setEntry, setChannel, takeAt}
+use Rattle.protocol.specs.Entries.{withChild}
+use Rattle.protocol.specs.Rules.{oldest, room?}
+use Rattle.protocol.specs.Shaped.{Shaped}
+use Rattle.protocol.proofs.shape.Actions.{near-cable, oldest-shaped, answer-entry, taken-room}
+use Rattle.protocol.proofs.shape.Changes.{take-shaped}
+use Rattle.net.specs.View.{view}
+use Rattle.net.specs.Encode.{bytesOf}
+use Rattle.access.specs.inner.Nets.{IsNet}
+use Rattle.access.proofs.Laws.{is-net-of}
+use Rattle.action.specs.inner.Ends.{MayPost}
+use Rattle.deliver.specs.inner.Oldest.{Oldest}
+
+module _ (N : Net) (H : Shaped N) (s d : ℕ) (O : Oldest N s d) where
+  pub sender : s < N .stations
+  sender = near-cable N H s d (O .between) .0
+
+  pub receiver : d < N .stations
+  receiver = near-cable N H s d (O .between) .1
+
+  pub grouped : (g : ℕ) → g ≡ oldest (N .channel) s d .group → g < N .groups
+  grouped g i = rw i (oldest-shaped N H s d (O .some) .grouped)
+
+  pub taken : (l : List ℕ) → l ≡ bytesOf (takeAt N s d 0) → (IsNet l) × (view l ≡ takeAt N s d 0)
+  taken l = is-net-of (takeAt N s d 0) l (take-shaped N H s d 0)
+
+  -- the receiver of a request lists the sender, and may reply
+  pub may-reply : (g : ℕ) (e : Entry) → g ≡ oldest (N .channel) s d .group → e ≡ withChild (N .entry g d) s → MayPost (takeAt N s d 0) g d e s
+  unfolding takeAt setChannel
+  may-reply g e i j = record {
+    group = grouped g i;
+    from = receiver;
+    to = sender;
+    between = subst (λ (e : Entry). Shaped (setEntry (takeAt N s d 0) g d e)) (sym j) (answer-entry N H s d (O .between) (O .some) g i);
+  }
+
+  -- a message taken out leaves the room there was
+  pub room-kept : room? N d s ≡ true → room? (takeAt N s d 0) d s ≡ true
+  unfolding room?
+  room-kept t = lt-ltb _ _ (taken-room N H s d 0 d s t)

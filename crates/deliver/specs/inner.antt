@@ -1,0 +1,2 @@
+-- What only the inner contracts of a delivery speak of.
+pub mod Oldest

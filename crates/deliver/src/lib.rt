@@ -1,0 +1,65 @@
+// 4. Deliver: the oldest message from s to d.
+use action::Answer;
+use action::answers::accepted;
+use action::answers::refused;
+use action::operands::of_cable;
+use protocol::Message;
+use protocol::REQUEST;
+ghost use mathlib.Core.Path.{_≡_};
+ghost use mathlib.Core.Bool.{true};
+ghost use Rattle.protocol.specs.Net.{Net, takeAt};
+ghost use Rattle.protocol.specs.Rules.{oldest, room?, answered, heard};
+ghost use Rattle.protocol.specs.Rules as rule;
+ghost use Rattle.net.specs.View.{view};
+ghost use Rattle.net.specs.Encode.{bytesOf};
+ghost use Rattle.access.specs.inner.Nets.{IsNet};
+ghost use Rattle.action.specs.inner.Ends.{ActionEnd};
+ghost use Rattle.deliver.specs.inner.Oldest.{Oldest};
+
+// A request is answered: the receiver lists the sender, and replies.
+fn answer(net: &mut [u8], s: u8, d: u8, g: u8)
+    requires { ⌜ IsNet (now net) ⌝ }
+    requires { ⌜ Oldest (view (now net)) s d ⌝ }
+    requires { ⌜ (g ≡ oldest (view (now net) .channel) s d .group) × (room? (view (now net)) d s ≡ true) ⌝ }
+    ensures { λ _. ⌜ now (net .exit) ≡ bytesOf (answered (takeAt (view (now (net .entry))) s d 0) g s d) ⌝ }
+{
+    let root = access::read::root_of(net, g);
+    let e = entries::with_child(access::read::entry_of(net, g, d), s);
+    access::change::take_at(net, s, d, 0);
+    action::post::post(net, g, d, e, s, entries::reply_of(g, root, d, e));
+}
+
+// A reply is heard: the receiver waits no longer, and may adopt the sender.
+fn hear(net: &mut [u8], s: u8, d: u8, m: Message)
+    requires { ⌜ IsNet (now net) ⌝ }
+    requires { ⌜ Oldest (view (now net)) s d ⌝ }
+    requires { ⌜ m ≡ oldest (view (now net) .channel) s d ⌝ }
+    ensures { λ _. ⌜ now (net .exit) ≡ bytesOf (heard (takeAt (view (now (net .entry))) s d 0) s d m) ⌝ }
+{
+    let g = m.group;
+    let e = entries::hearing(access::read::entry_of(net, g, d), s, m);
+    access::change::take_at(net, s, d, 0);
+    access::change::set_entry(net, g, d, e);
+}
+
+pub fn deliver(net: &mut [u8], s: u8, d: u8, c: u8) -> Answer
+    requires { ⌜ IsNet (now net) ⌝ }
+    ensures { λ r. ⌜ ActionEnd (rule.deliver (view (now (net .entry))) s d c) (now (net .entry)) r (now (net .exit)) ⌝ }
+{
+    if !of_cable(net, s, d, c) {
+        return refused(3);
+    }
+    if access::read::in_channel(net, s, d) == 0 {
+        return refused(4);
+    }
+    let m = access::read::oldest(net, s, d);
+    if m.kind == REQUEST {
+        if !access::read::has_room(net, d, s) {
+            return refused(6);
+        }
+        answer(net, s, d, m.group);
+        return accepted(1, 1, 0);
+    }
+    hear(net, s, d, m);
+    accepted(0, 1, 0)
+}

@@ -1,2 +1,0 @@
--- What a delivery asks.
-pub mod Oldest
