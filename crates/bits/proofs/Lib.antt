@@ -4,3 +4,4 @@ pub mod Parts
 pub mod Fills
 pub mod Masks
 pub mod Sums
+pub mod Below

@@ -1,4 +1,4 @@
--- Each public contract settles its result and everything lent, on all inputs. Above a theorem stands its function. The theorem's
+-- Each public contract determines its result and everything lent, on all inputs. Above a theorem stands its function. The theorem's
 -- variables are the function's parameters, and what it speaks of is the function's `ensures`, word for word: p is `now (p .entry)`,
 -- and p' is `now (p .exit)`. tests/contracts compares the texts.
 use mathlib.Core.Path.{_≡_, sym, _∙_}
@@ -22,7 +22,7 @@ use Rattle.visit.specs.Lists.{listFits}
 use Rattle.call.specs.Answers.{CallEnd, calledIn, listAfterCall}
 use Rattle.lent.specs.Lists.{calledRecord, calledOn, recordsAfterCall}
 use Rattle.rig.specs.Face.{foundWord, calledWord}
-use Rattle.listing.specs.Bench.{storedText}
+use Rattle.listing.specs.Bench.{textRoom, storedText}
 use Rattle.contracts.specs.Ways.{Determines, Determines2, Determines3}
 
 -- two that equal a third
@@ -116,5 +116,5 @@ kep-call-determined net group station list = two
 
 -- listing::report::report
 pub report-determined : (stored : List ℕ) (beyond : ℕ) (out : List ℕ)
-    → Determines2 (λ r out'. Wrote out out' 0 r (storedText stored beyond) × (r ≤ 16640))
+    → Determines2 (λ r out'. Wrote out out' 0 r (storedText stored beyond) × (r ≤ textRoom))
 report-determined stored beyond out x y e f = λ i. (same (e .0 .next) (f .0 .next) i, same (e .0 .bytes) (f .0 .bytes) i)

@@ -1,4 +1,4 @@
--- Each public contract settles its result and every lent byte; each refusal is given in its stated case only, and changes nothing.
+-- Each public contract determines its result and every lent byte; each refusal is given in its stated case only, and changes nothing.
 pub mod Determined
 pub mod Given
 pub mod Unchanged

@@ -1,4 +1,4 @@
--- What it is for a contract to settle an end, and the refusal tables.
+-- What it is for a contract to determine an end, and the refusal tables.
 pub mod Ways
 pub mod Tests
 pub mod Tables

@@ -1,5 +1,5 @@
 -- How a public function can end: its result, and what the lent things hold then, one or two of them. A contract admits some ends for
--- the bytes and numbers at entry. It settles them if any two that it admits are the same.
+-- the bytes and numbers at entry. It determines the end if any two that it admits are the same.
 use mathlib.Core.Path.{_≡_}
 
 abbrev pub Determines : {R : Type 0} → (R → Type 0) → Type 0

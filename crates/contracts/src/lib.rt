@@ -1,1 +1,1 @@
-// No code: theorems that each public contract settles what it speaks of.
+// No code: theorems that each public contract determines what it speaks of.

@@ -35,7 +35,8 @@ use Rattle.protocol.specs.Examples.{line, listingScript, listed}
 use Rattle.protocol.proofs.examples.Nets.{proper-shaped}
 use Rattle.channel.specs.Slots.{flat, laid}
 use Rattle.layout.specs.Layout.{netLength, planLength}
-use Rattle.layout.specs.Bounded.{allBelow, allBytes, zeros, same, table}
+use Rattle.bits.specs.Below.{allBelow}
+use Rattle.layout.specs.Bounded.{allBytes, zeros, same, table}
 use Rattle.plan.specs.Planned.{headerShaped, groupShaped, sameNames, newName, namesDistinct, bothWays, stationCabled, ofVersion1, planned, planShaped}
 use Rattle.forms.specs.Cells.{used, cells}
 use Rattle.forms.specs.Plans.{planIn, nameBytes, headerBytes, groupCell, maskCell, planBytes}

@@ -14,9 +14,8 @@ use Rattle.bits.proofs.Cases.{same-test, is-false}
 use Rattle.protocol.specs.Net.{Net}
 use Rattle.protocol.specs.Names.{sameName, firstFrom, find}
 use Rattle.protocol.proofs.Finds.{same-name, name-same, first-step, first-here, first-end, find-hit, find-miss}
-use Rattle.layout.specs.Layout.{groups}
-use Rattle.layout.specs.Bounded.{allBelow}
-use Rattle.layout.proofs.Bounded.{all-at, all-of}
+use Rattle.bits.specs.Below.{allBelow}
+use Rattle.bits.proofs.Below.{all-at, all-of}
 use Rattle.find.specs.declared.Answer.the-variants.{Group, Refused}
 use Rattle.find.specs.Answers.{answerOf}
 

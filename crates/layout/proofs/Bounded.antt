@@ -1,6 +1,4 @@
 -- Laws of the bounded tests.
---     all-none, all-more, all-done    a loop that joins a test at each number below a bound: where it begins, one turn more, its end
---     all-at, all-of                  what such a test says, and when it passes
 --     table-done, table-at, table-rest, table-of    the same of a table; grid-rest, grid-of of a table of tables
 use mathlib.Core.Path.{_≡_, refl, subst, ap, ap₂, _∙_}
 use mathlib.Core.List.{List}
@@ -14,32 +12,10 @@ use lib.Dec.{eqb, ltb}
 use lib.ListN.{length, List·getD-eq-default}
 use borrow.Author.Tests.{eqb-true, eq-eqb, ltb-true, lt-ltb}
 use Rattle.bits.proofs.Cases.{by-eq, by-lt, and-l, and-r, and-both}
+use Rattle.bits.specs.Below.{allBelow}
+use Rattle.bits.proofs.Below.{all-none, all-more, all-done, all-at, all-of}
 use Rattle.layout.specs.Layout.{byte}
-use Rattle.layout.specs.Bounded.{allBelow, allBytes, zeros, same, table}
-
-module _ (P : ℕ → Bool) where
-  pub all-none : true ≡ allBelow 0 P
-  unfolding allBelow
-  all-none = refl
-
-  pub all-more : {i : ℕ} {ok r : Bool} → ok ≡ allBelow i P → r ≡ P i → (ok && r) ≡ allBelow (i + 1) P
-  unfolding allBelow
-  all-more e f = rw (add-one, e, f)
-
-  pub all-done : {i n : ℕ} {ok : Bool} → i ≤ n → n ≤ i → ok ≡ allBelow i P → ok ≡ allBelow n P
-  all-done h k e = e ∙ ap (λ (m : ℕ). allBelow m P) (le-antisymm h k)
-
-  pub all-at : (n : ℕ) → allBelow n P ≡ true → (k : ℕ) → k < n → P k ≡ true
-  unfolding allBelow
-  all-at zero e k h = absurd (omega arith)
-  all-at (suc n) e k h = by-eq k n
-      (λ q. rw q (and-r (allBelow n P) (P n) e))
-      (λ q. all-at n (and-l (allBelow n P) (P n) e) k (omega arith))
-
-  pub all-of : (n : ℕ) → ((k : ℕ) → k < n → P k ≡ true) → allBelow n P ≡ true
-  unfolding allBelow
-  all-of zero f = refl
-  all-of (suc n) f = and-both (allBelow n P) (P n) (all-of n (λ k h. f k (omega arith))) (f n (omega arith))
+use Rattle.layout.specs.Bounded.{allBytes, zeros, same, table}
 
 -- ---- stretches of bytes
 pub zeros-at : (l : List ℕ) (a e : ℕ) → zeros l a e ≡ true → (i : ℕ) → a ≤ i → i < e → byte l i ≡ 0

@@ -6,8 +6,8 @@ use Prim.Native.Nat.{ℕ, _≤_, _<_}
 use lib.Dec.{leb, ltb, eqb}
 use borrow.Author.Tests.{leb-true, le-leb, ltb-true, lt-ltb, eqb-true, eq-eqb}
 use Rattle.bits.proofs.Cases.{and-l, and-r, and-both, suppose, supposed}
-use Rattle.layout.specs.Bounded.{allBelow, _implies_}
-use Rattle.layout.proofs.Bounded.{all-at, all-of}
+use Rattle.bits.specs.Below.{allBelow, _implies_}
+use Rattle.bits.proofs.Below.{all-at, all-of}
 
 pub and-iff : (a b : Bool) → ((a && b) ≡ true) ↔ ((a ≡ true) × (b ≡ true))
 and-iff a b = (λ e. (and-l a b e, and-r a b e), λ h. and-both a b (h .0) (h .1))

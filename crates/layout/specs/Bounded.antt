@@ -1,20 +1,11 @@
--- Bounded tests: a test at each number below a bound, stretches of bytes, and a table of which the first records are used.
-use mathlib.Core.Bool.{Bool, true, _&&_, _||_, not}
+-- Bounded tests of bytes: stretches, and a table of which the first records are used.
+use mathlib.Core.Bool.{Bool, _&&_}
 use mathlib.Core.List.{List}
-use Prim.Native.Nat.{ℕ, zero, suc, _+_, _*_, _-_}
+use Prim.Native.Nat.{ℕ, _+_, _*_, _-_}
 use lib.Dec.{eqb, ltb}
 use lib.ListN.{length}
+use Rattle.bits.specs.Below.{allBelow}
 use Rattle.layout.specs.Layout.{byte}
-
--- P passes at every number below n
-unfoldable pub allBelow : ℕ → (ℕ → Bool) → Bool
-allBelow zero P = true
-allBelow (suc n) P = allBelow n P && P n
-
-infixr 25 _implies_
--- where a passes, b does
-abbrev pub _implies_ : Bool → Bool → Bool
-a implies b = not a || b
 
 -- every number of the list is a byte
 unfoldable pub allBytes : List ℕ → Bool

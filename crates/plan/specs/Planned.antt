@@ -8,7 +8,8 @@ use Rattle.bits.specs.Masks.{has, below}
 use Rattle.bits.specs.Parts.{numberAt}
 use Rattle.protocol.specs.Net.{mostStations, mostGroups, longestName}
 use Rattle.layout.specs.Layout.{byte, planLength, stations, groups, groupSize, groupAt, nameLength, root, neighbours}
-use Rattle.layout.specs.Bounded.{allBelow, allBytes, _implies_, zeros, same, table}
+use Rattle.bits.specs.Below.{allBelow, _implies_}
+use Rattle.layout.specs.Bounded.{allBytes, zeros, same, table}
 
 abbrev pub between : ℕ → ℕ → ℕ → Bool
 between low high x = leb low x && leb x high

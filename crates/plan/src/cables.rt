@@ -7,7 +7,8 @@ ghost use mathlib.Core.Path.{_≡_};
 ghost use Prim.Native.Nat.{_≤_, _<_};
 ghost use lib.ListN.{length};
 ghost use Rattle.protocol.specs.Net.{mostStations};
-ghost use Rattle.layout.specs.Bounded.{allBelow, table};
+ghost use Rattle.bits.specs.Below.{allBelow};
+ghost use Rattle.layout.specs.Bounded.{table};
 ghost use Rattle.layout.specs.Layout.{planLength};
 ghost use Rattle.plan.specs.Planned as planned;
 

@@ -1,5 +1,5 @@
 -- The examples of document 01, "on each side", and examples of its other sentences: one table, in the document's order.
--- (`proofs/Examples.antt` has its one theorem: every row is right.)
+-- (`proofs/examples/Examples.antt` has the theorem: every row is right.)
 -- A row names a net and says something of it (`ExampleRows`). The net is that of a plan, where `knowing (g, p, e)` group g is e to
 -- station p, `carrying (s, d, m)` the message m is on its way from s to d, and `by (k, a, b, c)` the step has been taken, and accepted.
 -- Masks are binary: 0b101 is stations 0 and 2.

@@ -8,7 +8,8 @@ use Rattle.bits.specs.Masks.{has, within}
 use Rattle.bits.specs.Parts.{numberAt}
 use Rattle.protocol.specs.Net.{nil, mostStations, mostGroups, capacity, request, reply}
 use Rattle.layout.specs.Layout.{byte, netLength, stations, groups, root, neighbours, routesAt, routeAt, entriesAt, entrySize, stretchSize, stretchAt, entryAt, channelsAt, channelRow, channelSize, channelAt, messageSize, messageAt}
-use Rattle.layout.specs.Bounded.{allBytes, _implies_, zeros, table}
+use Rattle.bits.specs.Below.{_implies_}
+use Rattle.layout.specs.Bounded.{allBytes, zeros, table}
 use Rattle.plan.specs.Planned.{between, ofVersion1, planned}
 
 -- nil, or one of the neighbours m

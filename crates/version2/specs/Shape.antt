@@ -7,7 +7,8 @@ use lib.ListN.{length}
 use Rattle.bits.specs.Masks.{has}
 use Rattle.protocol.specs.Net.{nil, mostStations, mostGroups, request, reply}
 use Rattle.layout.specs.Layout.{byte, stations, groups, neighbours, entriesAt}
-use Rattle.layout.specs.Bounded.{allBytes, _implies_, zeros, table}
+use Rattle.bits.specs.Below.{_implies_}
+use Rattle.layout.specs.Bounded.{allBytes, zeros, table}
 use Rattle.plan.specs.Planned.{between, Header, planned}
 use Rattle.shape.specs.Shape.{nilOr, entryShaped, routesShaped}
 use Rattle.version2.specs.Records.{rootMessage, capacity2, entrySize2, messageSize2}

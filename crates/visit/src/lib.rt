@@ -1,4 +1,4 @@
-// The tree of a group, walked over a net's bytes: up from a station to the root, and down from the root to all.
+// The tree of a group, visited over a net's bytes: up from a station to the root, and down from the root to all.
 ghost use mathlib.Core.Path.{_≡_};
 ghost use mathlib.Core.List.{[], _∷_};
 ghost use Prim.Native.Nat.{_+_, _≤_, _<_};
@@ -11,7 +11,7 @@ ghost use Rattle.net.specs.View.{view};
 ghost use Rattle.access.specs.inner.Nets.{IsNet};
 ghost use Rattle.visit.specs.inner.Visits.{stationBytes, childrenBytes, MayVisit};
 
-// How many bytes the reach list has: `listLength` of specs/Visits.antt.
+// How many bytes the reach list has: `listLength` of specs/Lists.antt.
 pub const LIST_LENGTH: usize = 48;
 
 // Whether p is the parent of j, and lists it.

@@ -3,8 +3,8 @@ use Prim.Native.Nat.{_≤_, _-_}
 use native.Mathlib.Omega.{arith}
 use lib.Dec.{eqb}
 use lib.ListN.{getD}
-use Rattle.layout.specs.Bounded.{allBelow}
-use Rattle.layout.proofs.Bounded.{all-none, all-more, all-done}
+use Rattle.bits.specs.Below.{allBelow}
+use Rattle.bits.proofs.Below.{all-none, all-more, all-done}
 use Rattle.find.proofs.Names.{same-bytes, other-length}
 use Rattle.find.proofs.same_name.Statement.{statement}
 use Rattle.find.proofs.same_name.Tie as tie

@@ -20,7 +20,8 @@ use Rattle.protocol.specs.Fresh.{Plan}
 use Rattle.protocol.specs.Shaped.{none, both, ShapedPlan}
 use Rattle.layout.specs.Layout.{byte, stations, groups, groupSize, groupAt, nameLength, root, maskAt, neighbours}
 use Rattle.layout.specs.Bounded.{table}
-use Rattle.layout.proofs.Bounded.{all-of, zeros-of, same-at, table-of}
+use Rattle.bits.proofs.Below.{all-of}
+use Rattle.layout.proofs.Bounded.{zeros-of, same-at, table-of}
 use Rattle.plan.specs.Planned.{Header, headerShaped, groupShaped, sameNames, newName, namesDistinct, bothWays, stationCabled, planned}
 use Rattle.forms.specs.Cells.{EachByte}
 use Rattle.forms.specs.Plans.{nameOf, planIn, nameBytes, headerBytes, planBytes}

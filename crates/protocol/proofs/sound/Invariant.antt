@@ -1,6 +1,6 @@
 -- Soundness in the form that actions keep: the core, with one root for good, and what it says of joining and of clocks.
 --     sound-invariant, invariant-sound    it is the soundness of document 02
---     ticked, asked, .. settled each change of one entry keeps it
+--     ticked-kept, asking-kept, .. member-kept    each change of one entry keeps it
 use mathlib.Core.Path.{_≡_, refl, sym, ap, subst, _∙_}
 use mathlib.Core.Logic.{_≢_}
 use mathlib.Core.Bool.{Bool, true, false, not, _||_}

@@ -3,8 +3,9 @@ use Prim.Native.Nat.{_+_, _≤_, _-_}
 use native.Mathlib.Omega.{arith}
 use lib.Dec.{eqb}
 use Rattle.layout.specs.Layout.{byte}
-use Rattle.layout.specs.Bounded.{allBelow, same}
-use Rattle.layout.proofs.Bounded.{all-none, all-more, all-done}
+use Rattle.bits.specs.Below.{allBelow}
+use Rattle.layout.specs.Bounded.{same}
+use Rattle.bits.proofs.Below.{all-none, all-more, all-done}
 use Rattle.layout.proofs.stretch.all_same.Statement.{statement}
 use Rattle.layout.proofs.stretch.all_same.Tie as tie
 

@@ -3,8 +3,9 @@ use Prim.Native.Nat.{_+_, _≤_, _-_}
 use native.Mathlib.Omega.{arith}
 use lib.Dec.{eqb}
 use Rattle.layout.specs.Layout.{byte}
-use Rattle.layout.specs.Bounded.{allBelow, zeros}
-use Rattle.layout.proofs.Bounded.{all-none, all-more, all-done}
+use Rattle.bits.specs.Below.{allBelow}
+use Rattle.layout.specs.Bounded.{zeros}
+use Rattle.bits.proofs.Below.{all-none, all-more, all-done}
 use Rattle.layout.proofs.stretch.all_zero.Statement.{statement}
 use Rattle.layout.proofs.stretch.all_zero.Tie as tie
 

@@ -1,8 +1,9 @@
 use mathlib.Core.Path.{_≡_}
 use Prim.Native.Nat.{_≤_, _-_}
 use native.Mathlib.Omega.{arith}
-use Rattle.layout.specs.Bounded.{allBelow}
-use Rattle.layout.proofs.Bounded.{all-none, all-more, table-done}
+use Rattle.bits.specs.Below.{allBelow}
+use Rattle.bits.proofs.Below.{all-none, all-more}
+use Rattle.layout.proofs.Bounded.{table-done}
 use Rattle.plan.specs.Planned.{groupShaped}
 use Rattle.plan.proofs.groups.groups_shaped.Statement.{statement}
 use Rattle.plan.proofs.groups.groups_shaped.Tie as tie

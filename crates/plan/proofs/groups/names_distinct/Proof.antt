@@ -1,8 +1,8 @@
 use mathlib.Core.Path.{_≡_}
 use Prim.Native.Nat.{_≤_, _-_}
 use native.Mathlib.Omega.{arith}
-use Rattle.layout.specs.Bounded.{allBelow}
-use Rattle.layout.proofs.Bounded.{all-none, all-more, all-done}
+use Rattle.bits.specs.Below.{allBelow}
+use Rattle.bits.proofs.Below.{all-none, all-more, all-done}
 use Rattle.plan.specs.Planned.{newName, namesDistinct}
 use Rattle.plan.proofs.groups.names_distinct.Statement.{statement}
 use Rattle.plan.proofs.groups.names_distinct.Tie as tie

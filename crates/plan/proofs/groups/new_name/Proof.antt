@@ -2,8 +2,8 @@ use mathlib.Core.Path.{_≡_, ap}
 use mathlib.Core.Bool.{not}
 use Prim.Native.Nat.{_≤_, _-_}
 use native.Mathlib.Omega.{arith}
-use Rattle.layout.specs.Bounded.{allBelow}
-use Rattle.layout.proofs.Bounded.{all-none, all-more, all-done}
+use Rattle.bits.specs.Below.{allBelow}
+use Rattle.bits.proofs.Below.{all-none, all-more, all-done}
 use Rattle.plan.specs.Planned.{sameNames, newName}
 use Rattle.plan.proofs.groups.new_name.Statement.{statement}
 use Rattle.plan.proofs.groups.new_name.Tie as tie

@@ -2,8 +2,10 @@ use native.Mathlib.Omega.{arith}
 use mathlib.Core.Path.{_≡_, ap, _∙_}
 use Prim.Native.Nat.{_≤_, _-_}
 use Rattle.layout.specs.Layout.{messageAt}
-use Rattle.layout.specs.Bounded.{allBelow, zeros}
-use Rattle.layout.proofs.Bounded.{all-none, all-more, table-done}
+use Rattle.bits.specs.Below.{allBelow}
+use Rattle.layout.specs.Bounded.{zeros}
+use Rattle.bits.proofs.Below.{all-none, all-more}
+use Rattle.layout.proofs.Bounded.{table-done}
 use Rattle.shape.specs.Shape.{messageShaped}
 use Rattle.shape.proofs.channels.messages_shaped.Statement.{statement}
 use Rattle.shape.proofs.channels.messages_shaped.Tie as tie

@@ -3,8 +3,9 @@ use mathlib.Core.Path.{_≡_}
 use Prim.Native.Nat.{_≤_, _-_}
 use native.Mathlib.Nat.{one-mul}
 use Rattle.layout.specs.Layout.{neighbours, routeAt}
-use Rattle.layout.specs.Bounded.{allBelow}
-use Rattle.layout.proofs.Bounded.{all-none, all-more, table-done}
+use Rattle.bits.specs.Below.{allBelow}
+use Rattle.bits.proofs.Below.{all-none, all-more}
+use Rattle.layout.proofs.Bounded.{table-done}
 use Rattle.shape.specs.Shape.{routeShaped}
 use Rattle.shape.proofs.routes.route_row.Statement.{statement}
 use Rattle.shape.proofs.routes.route_row.Tie as tie

@@ -3,7 +3,7 @@ use mathlib.Core.Bool.{Bool, _&&_}
 use lib.Dec.{eqb}
 use Rattle.protocol.specs.Net.{nil}
 use Rattle.layout.specs.Layout.{byte}
-use Rattle.layout.specs.Bounded.{_implies_}
+use Rattle.bits.specs.Below.{_implies_}
 use Rattle.shape.specs.Shape.{routeShaped}
 use borrow.Author.Needs.{needs}
 use Rattle.shape.proofs.routes.route_shaped.Statement.{statement}

@@ -1,8 +1,9 @@
 use native.Mathlib.Omega.{arith}
 use mathlib.Core.Path.{_≡_}
 use Prim.Native.Nat.{_≤_, _-_}
-use Rattle.layout.specs.Bounded.{allBelow}
-use Rattle.layout.proofs.Bounded.{all-none, all-more, table-done}
+use Rattle.bits.specs.Below.{allBelow}
+use Rattle.bits.proofs.Below.{all-none, all-more}
+use Rattle.layout.proofs.Bounded.{table-done}
 use Rattle.shape.specs.Shape.{routeRow, routesShaped}
 use Rattle.shape.proofs.routes.routes_shaped.Statement.{statement}
 use Rattle.shape.proofs.routes.routes_shaped.Tie as tie

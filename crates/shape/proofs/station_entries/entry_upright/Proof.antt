@@ -4,7 +4,7 @@ use Prim.Native.Nat.{_+_}
 use lib.Dec.{eqb}
 use Rattle.protocol.specs.Net.{nil}
 use Rattle.layout.specs.Layout.{byte}
-use Rattle.layout.specs.Bounded.{_implies_}
+use Rattle.bits.specs.Below.{_implies_}
 use Rattle.shape.specs.Shape.{entryUpright}
 use borrow.Author.Needs.{needs}
 use Rattle.shape.proofs.station_entries.entry_upright.Statement.{statement}
