@@ -1,6 +1,6 @@
 -- How an action ends: one law for each number, and one for an action that sends a request.
-use mathlib.Core.Path.{_≡_, sym, ap, _∙_}
-use mathlib.Core.Bool.{Bool, true, false}
+use mathlib.Core.Path.{_≡_, _∙_}
+use mathlib.Core.Bool.{true, false}
 use mathlib.Core.List.{List}
 use Prim.Native.Nat.{ℕ}
 use Rattle.bits.proofs.Cases.{by-bool}

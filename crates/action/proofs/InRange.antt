@@ -5,7 +5,7 @@ use Prim.Native.Nat.{ℕ, _<_}
 use lib.Dec.{eqb, ltb}
 use borrow.Author.Tests.{ltb-true}
 use Rattle.bits.proofs.Cases.{and-l, and-r}
-use Rattle.protocol.specs.Net.{Net, nil, capacity, group?, station?, near?}
+use Rattle.protocol.specs.Net.{Net, nil, group?, station?, near?}
 use Rattle.protocol.specs.Shaped.{Shaped}
 use Rattle.protocol.proofs.shape.Actions.{near-cable}
 

@@ -10,11 +10,7 @@ use native.Mathlib.Nat.{pow-suc, mod-eq-of-lt, mod-one, mul-add-div-right, mul-c
 use native.Mathlib.Omega.{arith}
 use lib.Arith.{digits-lt, digits-div, mod-mul}
 use lib.ListN.{length, getD}
-use Rattle.bits.specs.Numbers.{onto, number, bytes}
-
--- every element is a byte
-abbrev pub Bytes : List ℕ → Type 0
-Bytes l = (i : ℕ) → getD l i 0 < 256
+use Rattle.bits.specs.Numbers.{Bytes, onto, number, bytes}
 
 pow256-pos : (w : ℕ) → 0 < 256 ^ w
 pow256-pos zero = omega arith

@@ -11,9 +11,9 @@ use native.Mathlib.Nat.{zero-add, add-zero, add-suc, suc-add}
 use native.Mathlib.Omega.{arith}
 use lib.ListN.{length, getD, take, drop, set, replicate, length-set, length-drop, length-append, take-append-drop, List·getD-append}
 use lib.Seq.{sets, sets-eq, length-take-le, length-sets, getD-set-same, getD-set-other, getD-take, getD-drop, getD-append-add, ext-getD, take-set-lt, take-set-le, drop-set-lt, drop-set-add, drop-drop}
-use Rattle.bits.specs.Numbers.{onto, number, bytes}
+use Rattle.bits.specs.Numbers.{Bytes, onto, number, bytes}
 use Rattle.bits.specs.Parts.{part, numberAt, splice, Wrote}
-use Rattle.bits.proofs.Numbers.{Bytes, number-lt, bytes-number, onto-append, onto-split}
+use Rattle.bits.proofs.Numbers.{number-lt, bytes-number, onto-append, onto-split}
 
 -- ---- the elements of a splice, one by one
 pub length-splice : (l : List ℕ) (a : ℕ) (vs : List ℕ) → length (splice l a vs) ≡ length l

@@ -7,9 +7,9 @@ use native.Mathlib.Numerals.{add-one}
 use lib.ListN.{length, take, getD, List·getD-map}
 use lib.Seq.{take-suc}
 use Rattle.bits.specs.Sums.{bit}
-use Rattle.bits.specs.Numbers.{bytes, number, onto}
+use Rattle.bits.specs.Numbers.{Bytes, bytes, number, onto}
 use Rattle.bits.specs.Parts.{part, numberAt}
-use Rattle.bits.proofs.Numbers.{Bytes, length-bytes, number-bytes}
+use Rattle.bits.proofs.Numbers.{length-bytes, number-bytes}
 use Rattle.bits.proofs.Parts.{lent, bytes-numberAt, part-all}
 use Rattle.protocol.specs.declared.Message.{Message}
 use Rattle.protocol.specs.Net.{capacity, removeAt}

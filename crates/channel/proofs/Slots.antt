@@ -171,7 +171,8 @@ sent-body most w ms s p sz hs few hp t ht =
     let n : most - length ms ≡ suc (most - length (ms ++ (s ∷ []))) = omega (arith, length-append ms (s ∷ [])) in
     let zz : replicate ((most - length ms) * w) 0 ≡ replicate w 0 ++ z = rw (n, suc-mul, replicate-append-replicate w, add-comm w) in
     let e : t ≡ flat ms ++ (replicate w 0 ++ z) = rw zz at ht in
-    rw (e, take-at (flat ms) (replicate w 0 ++ z) p (length-flat w ms sz ∙ sym hp), drop-at (flat ms) (replicate w 0 ++ z) p (length-flat w ms sz ∙ sym hp), drop-at (replicate w 0) z w (length-replicate w 0), flat-append, append-assoc, append-nil)
+    let long = length-flat w ms sz ∙ sym hp in
+    rw (e, take-at (flat ms) (replicate w 0 ++ z) p long, drop-at (flat ms) (replicate w 0 ++ z) p long, drop-at (replicate w 0) z w (length-replicate w 0), flat-append, append-assoc, append-nil)
 
 pub sent : (most w : ℕ) (b s : List ℕ) → Queue most w b → getD b 0 0 < most → length s ≡ w
     → set (back (1 + getD b 0 0 * w) w b s) 0 (getD b 0 0 + 1) ≡ laid most w (inUse w b ++ (s ∷ []))

@@ -5,7 +5,6 @@ use mathlib.Core.Path.{_≡_, sym, _∙_}
 use mathlib.Core.Bool.{true}
 use mathlib.Core.List.{List}
 use Prim.Native.Nat.{ℕ, _≤_}
-use lib.Dec.{eqb}
 use lib.ListN.{length}
 use Rattle.bits.specs.Parts.{Wrote}
 use Rattle.tree.specs.declared.Reach.{Reach}

@@ -3,9 +3,9 @@ use mathlib.Core.List.{List, [], _∷_, _++_}
 use Prim.Native.Nat.{ℕ, zero, suc}
 use native.Mathlib.Omega.{arith}
 use lib.ListN.{replicate}
-use Rattle.bits.specs.Numbers.{bytes}
+use Rattle.bits.specs.Numbers.{Bytes, bytes}
 use Rattle.bits.specs.Parts.{part}
-use Rattle.bits.proofs.Numbers.{Bytes, bytes-Bytes}
+use Rattle.bits.proofs.Numbers.{bytes-Bytes}
 use Rattle.bits.proofs.Parts.{part-Bytes}
 use Rattle.protocol.specs.Shaped.{none, both}
 use Rattle.forms.specs.Cells.{cells, EachByte}

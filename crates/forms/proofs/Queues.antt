@@ -12,7 +12,7 @@ use borrow.Author.Tests.{le-leb, eq-eqb, eqb-true}
 use Rattle.bits.specs.Masks.{has}
 use Rattle.bits.specs.Parts.{part}
 use Rattle.bits.proofs.Cases.{by-eq, by-or, and-both, or-l, or-r}
-use Rattle.bits.proofs.Numbers.{Bytes}
+use Rattle.bits.specs.Numbers.{Bytes}
 use Rattle.bits.proofs.Parts.{lent, length-part, getD-part, part-part, part-lent, getD-zeros}
 use Rattle.protocol.specs.Shaped.{All, none, both, Version, ShapedChannelOf}
 use Rattle.protocol.proofs.laws.Maps.{All-map}

@@ -11,7 +11,7 @@ use native.Mathlib.Omega.{arith}
 use lib.ListN.{length}
 use Rattle.bits.specs.Parts.{part, splice}
 use Rattle.bits.proofs.Cases.{by-eq}
-use Rattle.bits.proofs.Numbers.{Bytes}
+use Rattle.bits.specs.Numbers.{Bytes}
 use Rattle.bits.proofs.Parts.{part-splice, part-splice-out, part-whole}
 use Rattle.protocol.specs.Net.{upd2}
 use Rattle.protocol.specs.Shaped.{none}

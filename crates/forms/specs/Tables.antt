@@ -5,7 +5,7 @@ use mathlib.Core.List.{List}
 use Prim.Native.Nat.{ℕ}
 use lib.ListN.{length}
 use Rattle.bits.specs.Parts.{part}
-use Rattle.bits.proofs.Numbers.{Bytes}
+use Rattle.bits.specs.Numbers.{Bytes}
 use Rattle.forms.specs.Cells.{used, ifUsed, EachByte}
 use Rattle.forms.specs.Places.{Place, PlanBounds}
 use Rattle.forms.specs.Grids.{Grid}

@@ -1,19 +1,18 @@
 -- Laws of the bounded tests.
 --     table-done, table-at, table-rest, table-of    the same of a table; grid-rest, grid-of of a table of tables
-use mathlib.Core.Path.{_≡_, refl, subst, ap, ap₂, _∙_}
+use mathlib.Core.Path.{_≡_, subst, ap, ap₂, _∙_}
 use mathlib.Core.List.{List}
 use mathlib.Core.Logic.{_⊎_, inl, inr, ⊎-elim}
 use mathlib.Core.Bool.{Bool, true, _&&_}
 use Prim.Native.Nat.{ℕ, zero, suc, _+_, _-_, _*_, _/_, _%_, _≤_, _<_}
-use native.Mathlib.Numerals.{add-one}
-use native.Mathlib.Nat.{le-antisymm, add-sub-of-le, mul-suc, mul-comm, mul-le-mul-left, div-add-mod', div-lt-iff-lt-mul, mod-lt}
+use native.Mathlib.Nat.{add-sub-of-le, mul-suc, mul-comm, mul-le-mul-left, div-add-mod', div-lt-iff-lt-mul, mod-lt}
 use native.Mathlib.Omega.{arith}
 use lib.Dec.{eqb, ltb}
 use lib.ListN.{length, List·getD-eq-default}
 use borrow.Author.Tests.{eqb-true, eq-eqb, ltb-true, lt-ltb}
-use Rattle.bits.proofs.Cases.{by-eq, by-lt, and-l, and-r, and-both}
+use Rattle.bits.proofs.Cases.{by-lt, and-l, and-r, and-both}
 use Rattle.bits.specs.Below.{allBelow}
-use Rattle.bits.proofs.Below.{all-none, all-more, all-done, all-at, all-of}
+use Rattle.bits.proofs.Below.{all-done, all-at, all-of}
 use Rattle.layout.specs.Layout.{byte}
 use Rattle.layout.specs.Bounded.{allBytes, zeros, same, table}
 

@@ -16,7 +16,7 @@ use Rattle.protocol.specs.Net.{Net, inChannels}
 use Rattle.protocol.specs.Shaped.{Shaped}
 use Rattle.protocol.specs.Fresh.{Plan, fresh}
 use Rattle.protocol.specs.Steps.{orElse}
-use Rattle.protocol.specs.Runs.{RunState, lengthOutcome, scriptOutcome, run}
+use Rattle.protocol.specs.Runs.{lengthOutcome, scriptOutcome, run}
 use Rattle.protocol.proofs.steps.Steps.{orElse-pass}
 use Rattle.protocol.proofs.Theorems.{run-conserves}
 use Rattle.layout.specs.Layout.{planLength, netLength}

@@ -13,7 +13,7 @@ use Rattle.bits.specs.Masks.{has}
 use Rattle.bits.specs.Parts.{numberAt, part}
 use Rattle.bits.proofs.Cases.{by-eq, by-lt, and-both, or-l, or-r, suppose}
 use Rattle.bits.proofs.Masks.{bits-below, within-has, within-of, mask-fits}
-use Rattle.bits.proofs.Numbers.{Bytes}
+use Rattle.bits.specs.Numbers.{Bytes}
 use Rattle.bits.proofs.Parts.{length-part, getD-part, part-Bytes, numberAt-lt}
 use Rattle.protocol.specs.declared.Entry.{Entry}
 use Rattle.protocol.specs.declared.Message.{Message}

@@ -6,10 +6,10 @@ use native.Mathlib.Nat.{add-zero}
 use native.Mathlib.Numerals.{towards-suc}
 use native.Mathlib.Omega.{arith}
 use lib.ListN.{length, getD, set, replicate, length-append}
-use Rattle.bits.specs.Numbers.{number, onto, bytes}
+use Rattle.bits.specs.Numbers.{Bytes, number, onto, bytes}
 use Rattle.bits.specs.Parts.{numberAt, part, splice}
 use Rattle.bits.proofs.Cases.{by-lt}
-use Rattle.bits.proofs.Numbers.{Bytes, length-bytes, number-bytes}
+use Rattle.bits.proofs.Numbers.{length-bytes, number-bytes}
 use Rattle.bits.proofs.Parts.{getD-part, numberAt-part, bytes-numberAt, part-all, splice-append, getD-zeros}
 use Rattle.protocol.specs.declared.Entry.{Entry}
 use Rattle.net.specs.View.{entryOf}

@@ -11,10 +11,9 @@ use lib.ListN.{getD, length-append}
 use lib.Seq.{getD-at}
 use borrow.Author.Tests.{eqb-true, eq-eqb, ltb-true, lt-ltb, le-leb}
 use Rattle.bits.specs.Masks.{has}
-use Rattle.bits.specs.Numbers.{bytes}
+use Rattle.bits.specs.Numbers.{Bytes, bytes}
 use Rattle.bits.specs.Parts.{part}
 use Rattle.bits.proofs.Cases.{by-eq, by-or, and-both, or-l, or-r, suppose}
-use Rattle.bits.proofs.Numbers.{Bytes}
 use Rattle.bits.proofs.Parts.{length-part, getD-part, part-part, part-add, part-left, part-whole, part-Bytes, numberAt-lt}
 use Rattle.protocol.specs.declared.Message.{Message}
 use Rattle.protocol.specs.Net.{nil, request}

@@ -1,7 +1,7 @@
 -- What an action on a net's bytes answers, and the bytes that it leaves: those of the rule. "A refusal returns its number with zeros
 -- for every other result and changes no lent byte".
 use mathlib.Core.Path.{_≡_}
-use mathlib.Core.Bool.{Bool, cond}
+use mathlib.Core.Bool.{cond}
 use mathlib.Core.List.{List}
 use Prim.Native.Nat.{ℕ, _<_}
 use lib.Dec.{eqb}

@@ -48,7 +48,8 @@ may : (y : tie.After-may-ask) → y .may-ask .result ≡ R (y .before .before .b
 unfolding rule.ask
 may y = let q = route (y .before .before .before) in
     let e = y .before .entry-of .ensures in
-    y .may-ask .ensures ∙ (λ i. not (eqb (y .before .before .before .before .before .before .before .before .before .before .before .args .p) (y .before .before .before .before .before .root-of .ensures .0 i)) && joins (e i) && not (eqb (q i) nil) && not (has (e i .waiting) (q i)))
+    let r = y .before .before .before .before .before .root-of .ensures .0 in
+    y .may-ask .ensures ∙ (λ i. not (eqb (y .before .before .before .before .before .before .before .before .before .before .before .args .p) (r i)) && joins (e i) && not (eqb (q i) nil) && not (has (e i .waiting) (q i)))
 
 enabled : (y : tie.Else2) → R (y .before .before .before .before .before .before .before .before .before .before .before .before) .enabled ≡ true
 enabled y = sym (may (y .before)) ∙ not-false _ (y .if2 .left)
@@ -59,7 +60,8 @@ near y = let s = y .before .before .before .before .before .before .before .befo
     (cable (N s) (H s) (s .args .p) _ (ask-near (N s) (H s) (s .args .g) (s .args .p) (s .args .c) (enabled y)) .1)
 
 -- the entry as it is put
-entry : (z : tie.After-asking) → let s = z .before .before .before .before .before .before .before .before .before .before .before .before .before .before in z .asking .result ≡ asking (N s .entry (s .args .g) (s .args .p)) (asked s)
+entry : (z : tie.After-asking) → let s = z .before .before .before .before .before .before .before .before .before .before .before .before .before .before in
+    z .asking .result ≡ asking (N s .entry (s .args .g) (s .args .p)) (asked s)
 entry z = let y = z .before .before in
     z .asking .ensures ∙ (λ i. asking (y .before .before .entry-of .ensures i) (route (y .before .before .before .before) i))
 

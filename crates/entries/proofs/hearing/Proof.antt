@@ -16,7 +16,9 @@ adopting-requires c κs = search needs
 
 returns : tie.Need-returns
 unfolding rule.hearing
-returns c = rw (sym (c .before .before .adopts .ensures) ∙ c .before .if1 .taken) (c .adopting .ensures ∙ ap (λ (e : Entry). rule.adopting e (c .before .before .before .before .args .s) (c .before .before .before .before .args .m)) (c .before .before .before .stops-waiting .ensures))
+returns c = let x = c .before .before in
+    let a = x .before .before .args in
+    rw (sym (x .adopts .ensures) ∙ c .before .if1 .taken) (c .adopting .ensures ∙ ap (λ (e : Entry). rule.adopting e (a .s) (a .m)) (x .before .stops-waiting .ensures))
 
 returns-2 : tie.Need-returns-2
 unfolding rule.hearing

@@ -11,7 +11,7 @@ use lib.ListN.{length}
 use borrow.Author.Tests.{eq-eqb}
 use Rattle.bits.specs.Masks.{has}
 use Rattle.bits.proofs.Cases.{by-eq, and-both}
-use Rattle.bits.proofs.Numbers.{Bytes}
+use Rattle.bits.specs.Numbers.{Bytes}
 use Rattle.protocol.specs.Net.{NetOf, nil}
 use Rattle.protocol.specs.Fresh.{planOf}
 use Rattle.protocol.specs.Shaped.{Version, ShapedOf}

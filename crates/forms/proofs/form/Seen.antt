@@ -9,7 +9,7 @@ use native.Mathlib.Omega.{arith}
 use lib.ListN.{length}
 use Rattle.bits.specs.Masks.{has}
 use Rattle.bits.specs.Parts.{part}
-use Rattle.bits.proofs.Numbers.{Bytes}
+use Rattle.bits.specs.Numbers.{Bytes}
 use Rattle.protocol.specs.Net.{nil}
 use Rattle.protocol.specs.Shaped.{none, Version, ShapedChannelOf, ShapedOf}
 use Rattle.layout.specs.Layout.{stations, groups, root, neighbours}

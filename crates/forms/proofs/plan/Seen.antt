@@ -8,11 +8,10 @@ use native.Mathlib.Nat.{add-zero}
 use native.Mathlib.Omega.{arith}
 use lib.ListN.{length, getD}
 use Rattle.bits.specs.Masks.{has}
-use Rattle.bits.specs.Numbers.{bytes}
+use Rattle.bits.specs.Numbers.{Bytes, bytes}
 use Rattle.bits.specs.Parts.{part}
 use Rattle.bits.proofs.Cases.{by-lt, clash}
 use Rattle.bits.proofs.Masks.{has-zero}
-use Rattle.bits.proofs.Numbers.{Bytes}
 use Rattle.bits.proofs.Parts.{length-part, getD-part, part-Bytes, bytes-numberAt, part-add}
 use Rattle.protocol.specs.Shaped.{ShapedPlan}
 use Rattle.layout.specs.Layout.{byte, planLength, stations, groups, groupSize, groupAt, nameLength, maskAt, neighbours}

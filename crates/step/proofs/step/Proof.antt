@@ -15,7 +15,9 @@ same-length : tie.Need-same-length
 same-length c = search needs
 
 returns : tie.Need-returns
-returns c = let a = c .before .before .before .before .before .before .before .before .args in on-net (a .net .now) (a .action) (a .a) (a .b) (a .c) (sym (c .before .before .before .before .before .shaped .ensures) ∙ c .before .before .before .before .if1 .taken) (c .before .before .step-in .ensures)
+returns c = let x = c .before .before .before .before .before in
+    let a = x .before .before .before .args in
+    on-net (a .net .now) (a .action) (a .a) (a .b) (a .c) (sym (x .shaped .ensures) ∙ c .before .before .before .before .if1 .taken) (c .before .before .step-in .ensures)
 
 same-length-2 : tie.Need-same-length-2
 same-length-2 c = search needs

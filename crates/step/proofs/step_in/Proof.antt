@@ -103,7 +103,12 @@ returns-9 c = let d = c .before .before in let s = d .before .before .before .be
 returns-10 : tie.Need-returns-10
 returns-10 c = let a = c .before .before .before .args in
     unknown (a .net .now) (c .before .before .before .pre) (a .action) (a .a) (a .b) (a .c)
-    (⊎-elim (λ z. rw (z .keys10) refl) (λ z. let r = z .rest in no-action (a .action) (r .0 .0 .0 .0 .0 .0 .0 .0 .0 .1) (r .0 .0 .0 .0 .0 .0 .0 .0 .1) (r .0 .0 .0 .0 .0 .0 .0 .1) (r .0 .0 .0 .0 .0 .0 .1) (r .0 .0 .0 .0 .0 .1) (r .0 .0 .0 .0 .1) (r .0 .0 .0 .1) (r .0 .0 .1) (r .0 .1)) (c .before .match .came))
+    (⊎-elim (λ z. rw (z .keys10) refl)
+    (λ z. let r = z .rest .0 in
+    let s = r .0 .0 .0 in
+    let t = s .0 .0 .0 in
+    no-action (a .action) (t .0 .0 .1) (t .0 .1) (t .1) (s .0 .0 .1) (s .0 .1) (s .1) (r .0 .0 .1) (r .0 .1) (r .1))
+    (c .before .match .came))
     (c .refused .ensures)
 
 pub step-in-spec : {M : Type 1} → statement M

@@ -37,7 +37,7 @@ get16-requires-2 : tie.Need-get16-requires-2
 get16-requires-2 c κs = search needs
 
 returns : tie.Need-returns
-returns c = cc (fields (c .before .before .before .before .before .before .before .args .s .now) (c .before .before .before .before .before .before .before .args .at), c .before .before .get32 .ensures, c .before .get16 .ensures, c .get162 .ensures)
+returns c = let a = c .before .before .before .before .before .before .before .args in cc (fields (a .s .now) (a .at), c .before .before .get32 .ensures, c .before .get16 .ensures, c .get162 .ensures)
 
 pub read-entry-spec : {M : Type 1} → statement M
 read-entry-spec =

@@ -1,6 +1,5 @@
 use mathlib.Core.Path.{_≡_, sym, subst, _∙_}
-use mathlib.Core.List.{List}
-use Prim.Native.Nat.{ℕ, _<_}
+use Prim.Native.Nat.{_<_}
 use lib.ListN.{length}
 use borrow.Author.Tests.{ltb-true}
 use Rattle.protocol.specs.Net.{Net, capacity, setEntry, send}

@@ -1,7 +1,7 @@
 use mathlib.Core.Path.{_≡_, sym, _∙_}
 use mathlib.Core.Bool.{true}
 use borrow.Author.Tests.{not-true, not-false}
-use Rattle.protocol.specs.Net.{Net, setEntry, send}
+use Rattle.protocol.specs.Net.{setEntry, send}
 use Rattle.protocol.specs.Rules.{room?}
 use Rattle.net.specs.View.{view}
 use Rattle.net.specs.Encode.{bytesOf}

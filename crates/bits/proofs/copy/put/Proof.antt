@@ -42,7 +42,9 @@ same-length : tie.Need-same-length Inv-loop μ-loop
 same-length c = omega arith
 
 returns : tie.Need-returns Inv-loop μ-loop
-returns c = let n : c .before .loop .i ≡ length (c .before .before .args .s .now) = omega arith in record { next = refl; bytes = c .before .loop .inv .1 ∙ rw n (ap (splice (c .before .before .args .out .now) (c .before .before .args .at)) (part-all (c .before .before .args .s .now))) }
+returns c = let a = c .before .before .args in
+    let n : c .before .loop .i ≡ length (a .s .now) = omega arith in
+    record { next = refl; bytes = c .before .loop .inv .1 ∙ rw n (ap (splice (a .out .now) (a .at)) (part-all (a .s .now))) }
 
 pub put-spec : {M : Type 1} → statement M
 put-spec =
