@@ -13,7 +13,7 @@ use Rattle.protocol.proofs.steps.Steps.{Passed}
 use Rattle.net.specs.View.{view}
 use Rattle.net.specs.Encode.{bytesOf}
 use Rattle.action.specs.declared.Answer.{Answer}
-use Rattle.action.specs.inner.Ends.{refusedWith, acceptedWith, answerBy, netAfterAction, ActionEnd, RequestEnd}
+use Rattle.action.specs.inner.Ends.{refusedWith, acceptedWith, answerBy, netAfterAction, ActionEnd, MayPost, RequestEnd}
 
 module _ (R : Rule Net) (l : List ℕ) where
   pub ends-3 : {r : Answer} → r ≡ refusedWith 3 → R .operands ≡ false → ActionEnd R l r l
@@ -48,6 +48,14 @@ pub record Requests (R : Rule Net) (N : Net) (g p : ℕ) (e : Entry) (q : ℕ) :
   pub sendRoom : R .sendRoom ≡ room? N p q
   pub traffic : R .traffic ≡ oneSent
   pub next : R .next ≡ send (setEntry N g p e) p q (requestOf g)
+
+-- the entry and the neighbour of a rule, and the same as the code has them
+module _ {N : Net} {g p : ℕ} {e e' : Entry} {q q' : ℕ} (entry : e' ≡ e) (neighbour : q' ≡ q) where
+  pub may-post : MayPost N g p e q → MayPost N g p e' q'
+  may-post P = rw (entry, neighbour) P
+
+  pub requests : {R : Rule Net} → Requests R N g p e q → Requests R N g p e' q'
+  requests Q = rw (entry, neighbour) Q
 
 pub ends-request : (R : Rule Net) (l : List ℕ) (g p : ℕ) (e : Entry) (q : ℕ) {r : Answer} {l' : List ℕ} → Requests R (view l) g p e q → RequestEnd l g p e q r l' → ActionEnd R l r l'
 ends-request R l g p e q {r} {l'} Q E = by-bool (room? (view l) p q)

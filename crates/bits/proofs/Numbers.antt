@@ -9,7 +9,7 @@ use Prim.Native.Nat.{ℕ, zero, suc, _+_, _*_, _/_, _%_, _^_, _<_}
 use native.Mathlib.Nat.{pow-suc, mod-eq-of-lt, mod-one, mul-add-div-right, mul-comm}
 use native.Mathlib.Omega.{arith}
 use lib.Arith.{digits-lt, digits-div, mod-mul}
-use lib.ListN.{length, getD}
+use lib.ListN.{length}
 use Rattle.bits.specs.Numbers.{Bytes, onto, number, bytes}
 
 pow256-pos : (w : ℕ) → 0 < 256 ^ w

@@ -9,7 +9,7 @@ use Rattle.protocol.specs.Net.{capacity}
 use Rattle.layout.specs.Layout.{messageSize}
 use Rattle.channel.specs.Slots.{readAll, writeAll}
 
--- "8 messages of 7 [bytes], oldest first: kind, group, connected, clock (4)"
+-- "8 messages of 7, oldest first: kind, group, connected, clock (4)": a message from its seven bytes
 abbrev pub messageOf : List ℕ → Message
 messageOf s = record { kind = getD s 0 0; group = getD s 1 0; connected = getD s 2 0; clock = numberAt 4 s 3 }
 

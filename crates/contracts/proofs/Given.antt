@@ -1,4 +1,4 @@
--- Each public function's outcome is the one that its refusal table gives, and no other: "each refusal is given in its stated case only".
+-- Each public function's outcome is the one that its refusal table gives, and no other: each refusal is given in its stated case only.
 use mathlib.Core.Path.{_≡_, refl, sym, _∙_, subst}
 use mathlib.Core.Logic.{_↔_, _≢_}
 use mathlib.Core.Bool.{Bool, true}

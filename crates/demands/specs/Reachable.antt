@@ -1,4 +1,4 @@
--- The bytes that a bench can come to: "from a fresh net, after any steps in any order". Each case is what a public function leaves.
+-- The bytes that a bench can come to, from a fresh net, after any steps in any order. Each case is what a public function leaves.
 use mathlib.Core.Path.{_≡_}
 use mathlib.Core.Bool.{Bool}
 use mathlib.Core.List.{List}

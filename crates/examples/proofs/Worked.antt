@@ -104,6 +104,11 @@ module _ (buffer : List ℕ) (long : length buffer ≡ netLength) where
   pub listing-reachable : Reachable ends
   listing-reachable = ran (begun workedPlan buffer (worked-begins .0)) (scriptOf listingScript) true
 
+  pub listing-accepted : runOutcome begins (scriptOf listingScript) true ≡ 0
+  listing-accepted =
+      let T = bytes-tell (net line) (proper-shaped line line-proper) in
+      ap (λ (l : List ℕ). runOutcome l (scriptOf listingScript) true) (worked-begins .1) ∙ T .script (scriptOf listingScript) true ∙ listing-computed .1
+
   pub listing-shows : view ends ≡ net listed
   listing-shows =
       ap (λ (l : List ℕ). view (netAfterRun l (scriptOf listingScript) true)) (worked-begins .1) ∙ having-shows line line-proper listingScript

@@ -95,7 +95,7 @@ module _ (plan : List ℕ) (s : planShaped plan ≡ true) where
       ∙ part-splice-out w zeros 0 plan at (inr (omega (arith, n112)))
       ∙ part-cong w zeros [] at 0 (λ x b. getD-zeros netLength (at + x))
 
-  -- "version 1; stations n; groups g; zero"
+  -- version 1, stations, groups, zero
   tail : part 4 plan 4 ≡ 1 ∷ P .stations ∷ P .groups ∷ 0 ∷ []
   unfolding headerBytes part
   tail =

@@ -71,7 +71,7 @@ no-group N H g past = record {
 invariant : (N : Net) → ShapedSound N → (g : ℕ) → InvariantIn N g
 invariant N G g = by-lt g (N .groups) (λ l. sound-invariant N (G .shaped) g (G .sound g l)) (no-group N (G .shaped) g)
 
--- ---- 1. "A fresh net is shaped and sound. Every step, accepted or refused, any numbers, keeps shaped and sound"
+-- ---- a fresh net is shaped and sound, and every step, accepted or refused, with any numbers, keeps both
 fresh-invariant : (P : Plan) (g : ℕ) → InvariantIn (fresh P) g
 unfolding fresh underway countOf
 fresh-invariant P g = record {
@@ -129,18 +129,19 @@ module _ (N : Net) (s : List ℕ) where
   pub run-keeps-parents : Shaped N → (i : ℕ) → KeepsParents (after N s i .net) (after N s (suc i) .net)
   run-keeps-parents H i = rw (after-step i) (step-keeps-parents _ (run-shaped H i) _ _ _ _)
 
--- "From a fresh net, after any steps in any order (losses, refusals, route and membership changes)"
+-- from a fresh net, after any steps in any order, losses, refusals, route and membership changes among them
 pub fresh-demand3 : (P : Plan) → ShapedPlan P → (s : List ℕ) (i : ℕ) → Demand3 (after (fresh P) s i .net)
 fresh-demand3 P G s i = shaped-sound-demand3 _ (run-shaped-sound (fresh P) s (fresh-shaped-sound P G) i)
 
 pub fresh-keeps-parents : (P : Plan) → ShapedPlan P → (s : List ℕ) (i : ℕ) → KeepsParents (after (fresh P) s i .net) (after (fresh P) s (suc i) .net)
 fresh-keeps-parents P G s = run-keeps-parents (fresh P) s (fresh-shaped P G)
 
--- ---- 3. "Outcome 6 never occurs from a sound net"
+-- ---- outcome 6 never occurs from a sound net
 pub never-six : (N : Net) → ShapedSound N → (k a b c : ℕ) → outcome N k a b c ≢ 6
 never-six N G = room.never-six N (G .shaped) (invariant N G)
 
--- "Messages waiting at the start plus sent equal delivered plus lost plus waiting at the end, for a step and for a run"
+-- ---- messages in the channels at the start and those sent are as many as those delivered, lost and in the channels at the end: for a
+-- step, and for a run
 pub step-conserves : (N : Net) → Shaped N → (k a b c : ℕ) → outcome N k a b c ≡ 0
     → inChannels N + rule N k a b c .traffic .sent ≡ rule N k a b c .traffic .delivered + rule N k a b c .traffic .lost + inChannels (step N k a b c)
 unfolding outcome step

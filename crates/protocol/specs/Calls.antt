@@ -31,7 +31,7 @@ pub record Called : Type 0 where
 unfoldable pub callOutcome : Net → ℕ → ℕ → Bool → ℕ
 callOutcome N g c fits = orElse (group? N g && station? N c) 3 (orElse fits 10 (orElse (onTree (treeOf N g) c) 8 0))
 
--- "The answer gives the number reached and the copies; copies is the number of passings-on." A refusal gives zeros
+-- "The answer gives the number reached and the copies; copies is the number of passings-on". A refusal gives zeros
 unfoldable pub called : Net → ℕ → ℕ → Bool → Called
 called N g c fits =
     let o = callOutcome N g c fits in

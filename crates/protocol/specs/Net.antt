@@ -11,7 +11,7 @@ use Rattle.protocol.specs.declared.Entry.{Entry}
 use Rattle.protocol.specs.declared.Message.{Message}
 
 -- ---- the numbers of document 01, each named once
--- "255 is nil wherever a station may be missing"
+-- 255 is "nil" wherever a station may be missing
 abbrev pub nil : ℕ
 nil = tree.nil
 

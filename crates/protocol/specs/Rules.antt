@@ -119,7 +119,7 @@ deliver N s d c =
       next = cond asked (answered (takeAt N s d 0) (m .group) s d) (heard (takeAt N s d 0) s d m);
     }
 
--- 5. "Lose (from, to, position 0 to 7). That message is removed." In channels of any capacity, and in those of version 1
+-- 5. "Lose (from, to, position 0 to 7). That message is removed". In channels of any capacity, and in those of version 1
 abbrev pub loseIn : {E M : Type 0} → NetOf E M → (capacity s d i : ℕ) → Rule (NetOf E M)
 loseIn N capacity s d i = record {
   operands = near? N s d && ltb i capacity;
@@ -173,7 +173,7 @@ member N g p v = record {
 }
 
 -- 9. "Route (station, destination, next or 255). Sets the route. Names no group." Outcome 3 also if "9's station and its
--- next (unless 255) are not neighbours, a route's destination is its own station"
+-- next (unless 255), are not neighbours, a route's destination is its own station"
 unfoldable pub route : Net → ℕ → ℕ → ℕ → Rule Net
 route N p d q = record {
   operands = station? N p && station? N d && not (eqb p d) && (eqb q nil || near? N p q);

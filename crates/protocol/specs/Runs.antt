@@ -51,6 +51,6 @@ lengthOutcome n = orElse (eqb (n % 4) 0) 11 (orElse (leb n longestScript) 12 0)
 unfoldable pub scriptOutcome : List ℕ → ℕ
 scriptOutcome s = lengthOutcome (length s)
 
--- "The run takes every step in turn." A refused run takes none
+-- "The run takes every step in turn". A refused run takes none
 unfoldable pub run : Net → List ℕ → RunState
 run N s = after N s (cond (eqb (scriptOutcome s) 0) (length s / 4) 0)

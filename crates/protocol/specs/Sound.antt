@@ -11,8 +11,8 @@ use Rattle.protocol.specs.Entries.{joins, connected, underway}
 use Rattle.protocol.specs.Calls.{treeOf}
 use Rattle.protocol.specs.Shaped.{All}
 
--- station q, whose entry is e, in a group with root r: it is "a connected station that lists the receiver [p] and whose clock
--- is at least the reply's [k]"
+-- station q, whose entry is e, in a group with root r: it is "a connected station that lists the receiver and whose clock
+-- is at least the reply's", where the receiver is p and the clock k
 pub record Vouches (r q : ℕ) (e : Entry) (p k : ℕ) : Type 0 where
   pub holds : connected r q e ≡ true
   pub lists : has (e .children) p ≡ true

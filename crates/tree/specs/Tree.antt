@@ -4,7 +4,7 @@ use mathlib.Core.Bool.{Bool, true, false, _&&_, _||_}
 use Prim.Native.Nat.{ℕ, zero, suc, _<_}
 use lib.Dec.{eqb}
 
--- "255 is nil wherever a station may be missing"
+-- 255 is "nil" wherever a station may be missing
 abbrev pub nil : ℕ
 nil = 255
 

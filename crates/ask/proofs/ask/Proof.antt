@@ -1,20 +1,19 @@
-use mathlib.Core.Path.{_≡_, refl, sym, ap, subst, _∙_}
+use mathlib.Core.Path.{_≡_, refl, sym, ap, _∙_}
 use mathlib.Core.Bool.{true, not, _&&_}
 use Prim.Native.Nat.{ℕ, _<_}
 use native.Mathlib.Omega.{arith}
 use lib.Dec.{eqb}
 use borrow.Author.Tests.{not-true, not-false}
 use Rattle.bits.specs.Masks.{has}
-use Rattle.protocol.specs.declared.Entry.{Entry}
-use Rattle.protocol.specs.Net.{Net, nil, setEntry, send}
-use Rattle.protocol.specs.Entries.{joins, asking, requestOf}
-use Rattle.protocol.specs.Rules.{Rule, room?}
+use Rattle.protocol.specs.Net.{Net, nil}
+use Rattle.protocol.specs.Entries.{joins, asking}
+use Rattle.protocol.specs.Rules.{Rule}
 use Rattle.protocol.specs.Rules as rule
 use Rattle.protocol.specs.Shaped.{Shaped}
 use Rattle.protocol.proofs.shape.Actions.{cable, ask-near, ask-entry}
 use Rattle.net.specs.View.{view}
 use Rattle.net.proofs.Saved.{seen}
-use Rattle.action.proofs.Ends.{ends-3, ends-4, ends-request}
+use Rattle.action.proofs.Ends.{ends-3, ends-4, may-post, requests, ends-request}
 use borrow.Author.Needs.{needs}
 use Rattle.ask.proofs.ask.Statement.{statement}
 use Rattle.ask.proofs.ask.Tie as tie
@@ -54,10 +53,8 @@ may y = let q = route (y .before .before .before) in
 enabled : (y : tie.Else2) → R (y .before .before .before .before .before .before .before .before .before .before .before .before) .enabled ≡ true
 enabled y = sym (may (y .before)) ∙ not-false _ (y .if2 .left)
 
-near : (y : tie.Else2) → y .before .before .before .before .route-of .result < N (y .before .before .before .before .before .before .before .before .before .before .before .before) .stations
-near y = let s = y .before .before .before .before .before .before .before .before .before .before .before .before in
-    subst (λ (q : ℕ). q < N s .stations) (sym (route (y .before .before .before .before)))
-    (cable (N s) (H s) (s .args .p) _ (ask-near (N s) (H s) (s .args .g) (s .args .p) (s .args .c) (enabled y)) .1)
+near : (y : tie.Else2) → let s = y .before .before .before .before .before .before .before .before .before .before .before .before in asked s < N s .stations
+near y = let s = y .before .before .before .before .before .before .before .before .before .before .before .before in cable (N s) (H s) (s .args .p) _ (ask-near (N s) (H s) (s .args .g) (s .args .p) (s .args .c) (enabled y)) .1
 
 -- the entry as it is put
 entry : (z : tie.After-asking) → let s = z .before .before .before .before .before .before .before .before .before .before .before .before .before .before in
@@ -102,21 +99,14 @@ returns-2 c = let y = c .before .before in
     ends-4 _ _ (c .refused2 .ensures) (operands (y .before .before .before .before .before .before .before)) (sym (may y) ∙ not-true _ (c .before .if2 .taken))
 
 asking-requires : tie.Need-asking-requires
-asking-requires c κs = let y = c .before in omega (arith, near y, y .before .before .before .before .before .before .before .before .before .before .before .before .pre .few)
+asking-requires c κs = let y = c .before in rw (route (y .before .before .before .before)) (omega (arith, near y, y .before .before .before .before .before .before .before .before .before .before .before .before .pre .few))
 
 request-requires : tie.Need-request-requires
 request-requires c κs = let y = c .before .before in
     let x = y .before .before .before .before .before .before .before .before in
     let s = y .before .before .before .before .before .before .before .before .before .before .before .before in
-    let put = ask-entry (N s) (H s) (s .args .g) (s .args .p) (s .args .c) (operands x) (enabled y) in (
-      s .pre,
-      record {
-        group = in-range x .0;
-        from = in-range x .1;
-        to = near y;
-        between = subst (λ (e : Entry). Shaped (setEntry (N s) (s .args .g) (s .args .p) e)) (sym (entry c)) put;
-      },
-    )
+    let put = ask-entry (N s) (H s) (s .args .g) (s .args .p) (s .args .c) (operands x) (enabled y) in
+    (s .pre, may-post (entry c) (route (y .before .before .before .before)) (record { group = in-range x .0; from = in-range x .1; to = near y; between = put }))
 
 same-length-3 : tie.Need-same-length-3
 same-length-3 c = search needs
@@ -125,17 +115,8 @@ returns-3 : tie.Need-returns-3
 unfolding rule.ask
 returns-3 c = let z = c .before .before .before in
     let y = z .before .before in
-    let s = y .before .before .before .before .before .before .before .before .before .before .before .before in
-    let q = sym (route (y .before .before .before .before)) in
     ends-request _ _ _ _ _ _
-    (record {
-      operands = operands (y .before .before .before .before .before .before .before .before);
-      enabled = enabled y;
-      clockRoom = refl;
-      sendRoom = ap (room? (N s) (s .args .p)) q;
-      traffic = refl;
-      next = λ i. send (setEntry (N s) (s .args .g) (s .args .p) (sym (entry z) i)) (s .args .p) (q i) (requestOf (s .args .g));
-    })
+    (requests (entry z) (route (y .before .before .before .before)) (record { operands = operands (y .before .before .before .before .before .before .before .before); enabled = enabled y; clockRoom = refl; sendRoom = refl; traffic = refl; next = refl }))
     (c .before .before .request .ensures)
 
 pub ask-spec : {M : Type 1} → statement M
