@@ -1,5 +1,5 @@
 # shellcheck shell=sh disable=SC2154
-# Sourced by ./bench, the tests and the scripts of rig/: sees that what rt makes is made of the sources as they are now.
+# Sourced by ./bench, .ci/run, the tests and the scripts of rig/: sees that what rt makes is made of the sources as they are now.
 # The script that sources it first sets top, the top of the repository:
 #
 #     . "$top/tools/made.sh"
@@ -138,10 +138,17 @@ made_failures() {
 
 # Shows how the proving goes, as long as it goes on: on a terminal by one line that moves, else by rt's own lines.
 made_show() {
+    # the crate and all below it, each once; a line has only those that its files name, and io and libc are the kit's
     made_all=$(awk -v name="$made_crate" -F : '
+        function take(crate,  below, k, i) {
+            if (taken[crate]++) return
+            count++
+            k = split(deps[crate], below, " ")
+            for (i = 1; i <= k; i++) if (below[i] in deps) take(below[i])
+        }
         { sub(/#.*/, "") }
         NF > 1 { deps[$1] = $2 }
-        END { count = 1; k = split(deps[name], below, " "); for (i = 1; i <= k; i++) count += below[i] in deps; print count }' "$top/crates.txt")
+        END { take(name); print count }' "$top/crates.txt")
     made_told=0 made_on=1
     while [ "$made_on" -eq 1 ]; do
         kill -0 "$made_rt" 2>/dev/null || made_on=0

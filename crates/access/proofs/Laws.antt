@@ -15,7 +15,7 @@ use Rattle.protocol.specs.Shaped.{Shaped}
 use Rattle.channel.specs.Messages.{messagesOf, channelBytes}
 use Rattle.channel.specs.inner.Channels.{IsChannel}
 use Rattle.channel.proofs.Messages.{length-channel}
-use Rattle.layout.specs.Layout.{byte, netLength, stations, groups, groupAt, nameLength, routeAt, stretchAt, channelAt}
+use Rattle.layout.specs.Layout.{byte, netLength, stations, groups, groupAt, nameLength, routeAt, entryRowAt, channelAt}
 use Rattle.plan.specs.Planned.{ofVersion1}
 use Rattle.plan.proofs.Plans.{name-at}
 use Rattle.shape.specs.Shape.{shaped}
@@ -30,7 +30,7 @@ use Rattle.net.proofs.Saved.{view-channel, seen, channel-is, view-bytes, bytes-
 
 pub is-net : (l : List ℕ) → shaped l ≡ true → IsNet l
 unfolding view planIn
-is-net l s = let H = seen l s in record { shape = s; long = long l s; stationsAt = refl; groupsAt = refl; few = H .plan .few; fewGroups = H .plan .fewGroups }
+is-net l s = let H = seen l s in record { shape = s; long = long l s; stationsShown = refl; groupsShown = refl; few = H .plan .few; fewGroups = H .plan .fewGroups }
 
 -- bytes that are those of a well-shaped net
 pub is-net-of : (N : Net) (l : List ℕ) → Shaped N → l ≡ bytesOf N → (IsNet l) × (view l ≡ N)
@@ -47,7 +47,7 @@ module _ (l : List ℕ) (r : IsNet l) where
 
     pub channel-lent : IsChannel (lent at (at + 57 - at) l) × (messagesOf (lent at (at + 57 - at) l) ≡ view l .channel s d)
     channel-lent =
-        let below : (s < stations l) × (d < stations l) = (omega (arith, r .stationsAt), omega (arith, r .stationsAt)) in (
+        let below : (s < stations l) × (d < stations l) = (omega (arith, r .stationsShown), omega (arith, r .stationsShown)) in (
           subst IsChannel (sym lent-is) (channel-is l (r .shape) s d (below .0) (below .1)),
           ap messagesOf lent-is ∙ sym (view-channel l s d (below .0) (below .1)),
         )
@@ -63,12 +63,12 @@ module _ (l : List ℕ) (r : IsNet l) where
   -- the name of group g, as it is lent
   module _ (g at n : ℕ) (h : g < view l .groups) (i : at ≡ groupAt g + 1) (e : n ≡ nameLength l g) where
     name-few : n ≤ longestName
-    name-few = rw e (name-at l (ofVersion1 netLength) (plan-pass l (r .shape)) g (omega (arith, r .groupsAt)) .1)
+    name-few = rw e (name-at l (ofVersion1 netLength) (plan-pass l (r .shape)) g (omega (arith, r .groupsShown)) .1)
 
     name-lent : lent at (at + n - at) l ≡ view l .name g
     unfolding view nameOf
     name-lent =
-        let hg : g < groups l = omega (arith, r .groupsAt) in
+        let hg : g < groups l = omega (arith, r .groupsShown) in
         rw add-sub-cancel-left
         (part-lent n l at (omega (arith, name-few, r .long, r .fewGroups)) ∙ ap (part n l) i
         ∙ sym (plan-name l g hg
@@ -79,8 +79,8 @@ module _ (l : List ℕ) (r : IsNet l) where
     pub name-is : (lent at (at + n - at) l ≡ view l .name g) × (length (lent at (at + n - at) l) ≤ longestName)
     name-is = (name-lent, rw name-lent (seen l (r .shape) .plan .named g h .1))
 
-  -- the stretch of group g comes back with the entry of station p written
-  pub entry-back : (g p a : ℕ) (e : Entry) → a ≡ stretchAt g → g < view l .groups → p < view l .stations
+  -- the row of group g comes back with the entry of station p written
+  pub entry-back : (g p a : ℕ) (e : Entry) → a ≡ entryRowAt g → g < view l .groups → p < view l .stations
       → back a (a + 192 - a) l (splice (lent a (a + 192 - a) l) (12 * p) (entryBytes e)) ≡ bytesOf (setEntry (view l) g p e)
   entry-back g p a e i hg hp =
       lent-back a (a + 192 - a) l (12 * p) (entryBytes e) (omega (arith, length-entryBytes e, r .few))

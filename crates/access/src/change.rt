@@ -2,12 +2,12 @@
 use bits::number::put16;
 use bits::number::put32;
 use bits::number::wide;
-use layout::place::CHANNEL_SIZE;
-use layout::place::ENTRY_SIZE;
-use layout::place::STRETCH_SIZE;
-use layout::place::channel_at;
-use layout::place::route_at;
-use layout::place::stretch_at;
+use layout::offset::CHANNEL_SIZE;
+use layout::offset::ENTRY_ROW_SIZE;
+use layout::offset::ENTRY_SIZE;
+use layout::offset::channel_at;
+use layout::offset::entry_row_at;
+use layout::offset::route_at;
 use protocol::Entry;
 use protocol::Message;
 ghost use mathlib.Core.Path.{_≡_};
@@ -15,24 +15,24 @@ ghost use Prim.Native.Nat.{_*_, _<_};
 ghost use lib.ListN.{length};
 ghost use Rattle.bits.specs.Parts.{splice};
 ghost use Rattle.protocol.specs.Net.{Net, capacity, setEntry, setRoute, send, takeAt, mostStations};
-ghost use Rattle.layout.specs.Layout.{entrySize, stretchSize};
+ghost use Rattle.layout.specs.Layout.{entrySize, entryRowSize};
 ghost use Rattle.net.specs.View.{view};
 ghost use Rattle.net.specs.Encode.{entryBytes, bytesOf};
 ghost use Rattle.access.specs.inner.Nets.{IsNet};
 
-// The entry of station p, written to the stretch of one group.
-pub fn write_entry(stretch: &mut [u8], p: u8, e: Entry)
-    requires { ⌜ (length (now stretch) ≡ stretchSize) × (p < mostStations) ⌝ }
-    ensures { λ _. ⌜ now (stretch .exit) ≡ splice (now (stretch .entry)) (entrySize * p) (entryBytes e) ⌝ }
+// The entry of station p, written to the row of entries of one group.
+pub fn write_entry(row: &mut [u8], p: u8, e: Entry)
+    requires { ⌜ (length (now row) ≡ entryRowSize) × (p < mostStations) ⌝ }
+    ensures { λ _. ⌜ now (row .exit) ≡ splice (now (row .entry)) (entrySize * p) (entryBytes e) ⌝ }
 {
     let at = ENTRY_SIZE * wide(p);
-    stretch[at] = e.parent;
-    stretch[at + 1] = e.tentative;
-    stretch[at + 2] = e.member;
-    stretch[at + 3] = 0;
-    put32(stretch, at + 4, e.clock);
-    put16(stretch, at + 8, e.children);
-    put16(stretch, at + 10, e.waiting);
+    row[at] = e.parent;
+    row[at + 1] = e.tentative;
+    row[at + 2] = e.member;
+    row[at + 3] = 0;
+    put32(row, at + 4, e.clock);
+    put16(row, at + 8, e.children);
+    put16(row, at + 10, e.waiting);
 }
 
 // Another entry of station p in group g: only the part that starts at the group's entries is lent on.
@@ -41,8 +41,8 @@ pub fn set_entry(net: &mut [u8], g: u8, p: u8, e: Entry)
     requires { ⌜ (g < view (now net) .groups) × (p < view (now net) .stations) ⌝ }
     ensures { λ _. ⌜ now (net .exit) ≡ bytesOf (setEntry (view (now (net .entry))) g p e) ⌝ }
 {
-    let a = stretch_at(wide(g));
-    write_entry(&mut net[a..a + STRETCH_SIZE], p, e);
+    let a = entry_row_at(wide(g));
+    write_entry(&mut net[a..a + ENTRY_ROW_SIZE], p, e);
 }
 
 // Another route from p towards d.

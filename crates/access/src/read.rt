@@ -2,7 +2,7 @@
 use bits::number::get16;
 use bits::number::get32;
 use bits::number::wide;
-use layout::place::CHANNEL_SIZE;
+use layout::offset::CHANNEL_SIZE;
 use protocol::CAPACITY;
 use protocol::Entry;
 use protocol::Message;
@@ -13,7 +13,7 @@ ghost use Prim.Native.Nat.{_+_, _≤_, _<_};
 ghost use lib.ListN.{length, getD};
 ghost use Rattle.bits.specs.Parts.{part};
 ghost use Rattle.protocol.specs.Net.{Net, longestName, group?, station?, near?, capacity};
-ghost use Rattle.protocol.specs.Entries.{countOf, underway};
+ghost use Rattle.protocol.specs.Entries.{countOf, underWay};
 ghost use Rattle.protocol.specs.Rules.{room?, noMessage};
 ghost use Rattle.layout.specs.Layout.{entrySize};
 ghost use Rattle.channel.specs.Messages.{messagesOf};
@@ -74,7 +74,7 @@ pub fn name_of(net: &[u8], g: u8) -> &[u8]
     requires { ⌜ g < view (now net) .groups ⌝ }
     ensures { λ r. ⌜ (now r ≡ view (now (net .entry)) .name g) × (length (now r) ≤ longestName) ⌝ }
 {
-    let at = layout::place::group_at(wide(g)) + 1;
+    let at = layout::offset::group_at(wide(g)) + 1;
     &net[at..at + wide(layout::front::name_length(net, wide(g)))]
 }
 
@@ -93,7 +93,7 @@ pub fn route_of(net: &[u8], p: u8, d: u8) -> u8
     requires { ⌜ (p < view (now net) .stations) × (d < view (now net) .stations) ⌝ }
     ensures { λ r. ⌜ r ≡ view (now (net .entry)) .route p d ⌝ }
 {
-    net[layout::place::route_at(wide(p), wide(d))]
+    net[layout::offset::route_at(wide(p), wide(d))]
 }
 
 fn read_entry(s: &[u8], at: usize) -> Entry
@@ -116,7 +116,7 @@ pub fn entry_of(net: &[u8], g: u8, p: u8) -> Entry
     requires { ⌜ (g < view (now net) .groups) × (p < view (now net) .stations) ⌝ }
     ensures { λ r. ⌜ r ≡ view (now (net .entry)) .entry g p ⌝ }
 {
-    read_entry(net, layout::place::entry_at(wide(g), wide(p)))
+    read_entry(net, layout::offset::entry_at(wide(g), wide(p)))
 }
 
 // The bytes of the channel from s to d.
@@ -125,7 +125,7 @@ fn channel_of(net: &[u8], s: u8, d: u8) -> &[u8]
     requires { ⌜ (s < view (now net) .stations) × (d < view (now net) .stations) ⌝ }
     ensures { λ r. ⌜ IsChannel (now r) × (messagesOf (now r) ≡ view (now (net .entry)) .channel s d) ⌝ }
 {
-    let at = layout::place::channel_at(wide(s), wide(d));
+    let at = layout::offset::channel_at(wide(s), wide(d));
     &net[at..at + CHANNEL_SIZE]
 }
 
@@ -169,7 +169,7 @@ fn count_of(net: &[u8], s: u8, d: u8, kind: u8, g: u8) -> u8
 pub fn under_way(net: &[u8], g: u8, p: u8, q: u8) -> u8
     requires { ⌜ IsNet (now net) ⌝ }
     requires { ⌜ (p < view (now net) .stations) × (q < view (now net) .stations) ⌝ }
-    ensures { λ r. ⌜ r ≡ underway (view (now (net .entry)) .channel) g p q ⌝ }
+    ensures { λ r. ⌜ r ≡ underWay (view (now (net .entry)) .channel) g p q ⌝ }
 {
     count_of(net, p, q, REQUEST, g) + count_of(net, q, p, REPLY, g)
 }

@@ -22,9 +22,9 @@ module _ (N : Net) where
       let u : ltb p (N .stations) ≡ true = search (and-l, and-r) in
       (ltb-true _ _ t, ltb-true _ _ u)
 
-  pub path-in : (p d q : ℕ) → (station? N p && station? N d && not (eqb p d) && (eqb q nil || near? N p q)) ≡ true → (p < N .stations) × (d < N .stations)
+  pub route-in : (p d q : ℕ) → (station? N p && station? N d && not (eqb p d) && (eqb q nil || near? N p q)) ≡ true → (p < N .stations) × (d < N .stations)
   unfolding station?
-  path-in p d q o =
+  route-in p d q o =
       let t : ltb p (N .stations) ≡ true = search (and-l, and-r) in
       let u : ltb d (N .stations) ≡ true = search (and-l, and-r) in
       (ltb-true _ _ t, ltb-true _ _ u)

@@ -64,7 +64,7 @@ pub fn of_pair(net: &[u8], g: u8, p: u8, q: u8) -> bool
 }
 
 // A station, another, and a neighbour of the first or nil.
-pub fn of_path(net: &[u8], p: u8, d: u8, q: u8) -> bool
+pub fn of_route(net: &[u8], p: u8, d: u8, q: u8) -> bool
     requires { ⌜ IsNet (now net) ⌝ }
     ensures { λ r. ⌜ r ≡ (station? (view (now (net .entry))) p && station? (view (now (net .entry))) d && not (eqb p d) && (eqb q nil || near? (view (now (net .entry))) p q)) ⌝ }
     ensures { λ r. ⌜ (r ≡ true → (p < view (now (net .entry)) .stations) × (d < view (now (net .entry)) .stations)) ⌝ }

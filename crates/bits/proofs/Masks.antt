@@ -97,7 +97,6 @@ pub has-zero : (j : ℕ) → has 0 j ≡ false
 has-zero zero = has-low 0
 has-zero (suc j) = has-suc 0 j ∙ has-zero j
 
--- ---- bounds, for any width
 -- ---- two masks are equal where they hold the same
 bit-eq : (a b : ℕ) → eqb (a % 2) 1 ≡ eqb (b % 2) 1 → a % 2 ≡ b % 2
 bit-eq a b e = go (eqb (b % 2) 1) refl

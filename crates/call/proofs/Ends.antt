@@ -1,4 +1,4 @@
--- How a call ends: one law for each number; and what an answer tells.
+-- How a call ends: one law for each number.
 use mathlib.Core.Path.{_≡_, refl}
 use mathlib.Core.Logic.{_≢_}
 use mathlib.Core.Bool.{true, false, _&&_}

@@ -116,7 +116,7 @@ cut P M R Z p q w hp hm hq =
     rw (take-at P (M ++ (R ++ Z)) p hp, drop-at P (M ++ (R ++ Z)) p hp, ← append-assoc M R Z, take-at (M ++ R) Z q hq, drop-at (M ++ R) Z q hq, drop-at M R w hm)
     (simp append-assoc)
 
--- a channel's bytes in which the part from slot i to the last in use was moved w to the left, and the count lowered: one message less
+-- the same of the bytes behind the count: xs, then m, then ys, with what follows m moved w to the left
 pub removed-body : (most w : ℕ) (xs : List (List ℕ)) (m : List ℕ) (ys : List (List ℕ)) (p q : ℕ) → Sized w (xs ++ m ∷ ys) → length (xs ++ m ∷ ys) ≤ most
     → p ≡ length xs * w → q ≡ suc (length ys) * w
     → (t : List ℕ) → t ≡ flat (xs ++ m ∷ ys) ++ replicate ((most - length (xs ++ m ∷ ys)) * w) 0

@@ -1,5 +1,5 @@
 // A channel's bytes: a count, and then the messages, oldest first.
-use layout::place::MESSAGE_SIZE;
+use layout::offset::MESSAGE_SIZE;
 use protocol::Message;
 ghost use mathlib.Core.Path.{_≡_};
 ghost use mathlib.Core.List.{[], _∷_, _++_};

@@ -18,6 +18,7 @@ use Rattle.fresh.specs.Fresh.{freshOutcome, netAfterFresh}
 use Rattle.step.specs.Steps.{stepOutcome, netAfterStep}
 use Rattle.run.specs.Tallies.{tallyFits}
 use Rattle.run.specs.Runs.{runOutcome, netAfterRun, runTally, tallyAfterRun}
+use Rattle.step.proofs.After.{refused-after as refused-after-step}
 use Rattle.run.proofs.Theorems.{refused-after, refused-tally, refused-bytes}
 use Rattle.find.specs.Answers.{foundIn}
 use Rattle.visit.specs.Lists.{listFits}
@@ -29,8 +30,7 @@ unfolding netAfterFresh
 fresh-unchanged plan net n = rw (ne-eqb _ 0 n) refl
 
 pub step-unchanged : (l : List ℕ) (k a b c : ℕ) → stepOutcome l k a b c ≢ 0 → netAfterStep l k a b c ≡ l
-unfolding netAfterStep
-step-unchanged l k a b c n = rw (ne-eqb _ 0 n) refl
+step-unchanged = refused-after-step
 
 -- the net and the lent tally, as a record and as bytes
 pub run-unchanged : (l s : List ℕ) (fits : Bool) (t : Tally) → runOutcome l s fits ≢ 0 → (netAfterRun l s fits ≡ l) × (runTally l s fits t ≡ t)
@@ -57,9 +57,9 @@ find-zeros l w n =
     (λ s. by-bool (ltb first-one (view l .groups)) (λ t. absurd (n (rw (s, t) refl))) (λ t. rw (s, t) refl))
     (λ s. rw s refl)
 
-pub call-zeros : (l : List ℕ) (g c : ℕ) (fits : Bool) → calledIn l g c fits .outcome ≢ 0
+pub czeross : (l : List ℕ) (g c : ℕ) (fits : Bool) → calledIn l g c fits .outcome ≢ 0
     → (calledIn l g c fits .reached ≡ 0) × (calledIn l g c fits .copies ≡ 0)
 unfolding calledIn called
-call-zeros l g c fits n = by-bool (shaped l)
+czeross l g c fits n = by-bool (shaped l)
     (λ s. by-bool (eqb (callOutcome (view l) g c fits) 0) (λ t. absurd (n (rw (s, t) refl))) (λ t. (rw (s, t) refl, rw (s, t) refl)))
     (λ s. (rw s refl, rw s refl))

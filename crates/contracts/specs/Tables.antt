@@ -8,7 +8,7 @@ use lib.ListN.{length}
 use Rattle.tree.specs.Tree.{onTree}
 use Rattle.protocol.specs.Net.{group?, station?}
 use Rattle.protocol.specs.Steps.{action?, rule}
-use Rattle.protocol.specs.Runs.{longestScript}
+use Rattle.protocol.specs.Net.{longestScript}
 use Rattle.protocol.specs.Names.{firstFrom, sameName}
 use Rattle.protocol.specs.Calls.{treeOf}
 use Rattle.layout.specs.Layout.{netLength}

@@ -16,9 +16,9 @@ use Rattle.net.specs.Encode.{bytesOf}
 use Rattle.access.specs.inner.Nets.{IsNet}
 use Rattle.access.proofs.Laws.{is-net-of}
 use Rattle.action.specs.inner.Ends.{MayPost}
-use Rattle.deliver.specs.inner.Oldest.{Oldest}
+use Rattle.deliver.specs.inner.MayDeliver.{MayDeliver}
 
-module _ (N : Net) (H : Shaped N) (s d : ℕ) (O : Oldest N s d) where
+module _ (N : Net) (H : Shaped N) (s d : ℕ) (O : MayDeliver N s d) where
   pub sender : s < N .stations
   sender = near-cable N H s d (O .between) .0
 

@@ -1,2 +1,2 @@
 -- What only the inner contracts of a delivery speak of.
-pub mod Oldest
+pub mod MayDeliver

@@ -14,12 +14,12 @@ ghost use Rattle.net.specs.View.{view};
 ghost use Rattle.net.specs.Encode.{bytesOf};
 ghost use Rattle.access.specs.inner.Nets.{IsNet};
 ghost use Rattle.action.specs.inner.Ends.{ActionEnd};
-ghost use Rattle.deliver.specs.inner.Oldest.{Oldest};
+ghost use Rattle.deliver.specs.inner.MayDeliver.{MayDeliver};
 
 // A request is answered: the receiver lists the sender, and replies.
 fn answer(net: &mut [u8], s: u8, d: u8, g: u8)
     requires { ⌜ IsNet (now net) ⌝ }
-    requires { ⌜ Oldest (view (now net)) s d ⌝ }
+    requires { ⌜ MayDeliver (view (now net)) s d ⌝ }
     requires { ⌜ (g ≡ oldest (view (now net) .channel) s d .group) × (room? (view (now net)) d s ≡ true) ⌝ }
     ensures { λ _. ⌜ now (net .exit) ≡ bytesOf (answered (takeAt (view (now (net .entry))) s d 0) g s d) ⌝ }
 {
@@ -32,7 +32,7 @@ fn answer(net: &mut [u8], s: u8, d: u8, g: u8)
 // A reply is heard: the receiver waits no longer, and may adopt the sender.
 fn hear(net: &mut [u8], s: u8, d: u8, m: Message)
     requires { ⌜ IsNet (now net) ⌝ }
-    requires { ⌜ Oldest (view (now net)) s d ⌝ }
+    requires { ⌜ MayDeliver (view (now net)) s d ⌝ }
     requires { ⌜ m ≡ oldest (view (now net) .channel) s d ⌝ }
     ensures { λ _. ⌜ now (net .exit) ≡ bytesOf (heard (takeAt (view (now (net .entry))) s d 0) s d m) ⌝ }
 {

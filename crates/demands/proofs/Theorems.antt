@@ -20,7 +20,8 @@ use Rattle.protocol.specs.Steps.{orElse, outcome}
 use Rattle.protocol.specs.Demands.{Demand3, KeepsParents}
 use Rattle.protocol.proofs.steps.Steps.{orElse-pass}
 use Rattle.protocol.proofs.steps.Kept.{step-keeps-parents}
-use Rattle.protocol.proofs.Theorems.{ShapedSound, fresh-shaped-sound, step-shaped-sound, run-shaped-sound, shaped-sound-demand3, never-six}
+use Rattle.protocol.specs.Sound.{ShapedSound}
+use Rattle.protocol.proofs.Theorems.{fresh-shaped-sound, step-shaped-sound, run-shaped-sound, shaped-sound-demand3, never-six}
 use Rattle.layout.specs.Layout.{netLength}
 use Rattle.plan.specs.Planned.{planShaped}
 use Rattle.shape.specs.Shape.{shaped}
@@ -31,15 +32,10 @@ use Rattle.step.specs.Steps.{stepOutcome, netAfterStep}
 use Rattle.step.proofs.After.{after-net}
 use Rattle.run.specs.Runs.{runOutcome, netAfterRun, inTurn}
 use Rattle.run.proofs.Theorems.{refused-after, run-after}
-use Rattle.demands.specs.Reachable.{Reachable, begun, stepped, ran}
+use Rattle.demands.specs.Reachable.{Reachable, begun, stepped, ran, ShapedSoundBytes}
 use Rattle.forms.specs.Plans.{planIn}
 use Rattle.forms.proofs.plan.Seen.{plan-seen}
 use Rattle.net.proofs.Saved.{stands}
-
--- bytes of a net that is well shaped and sound
-pub record ShapedSoundBytes (l : List ℕ) : Type 0 where
-  pub shape : shaped l ≡ true
-  pub sound : ShapedSound (view l)
 
 -- the bytes of a well-shaped and sound net
 shaped-sound-bytes : (N : Net) (l : List ℕ) → ShapedSound N → l ≡ bytesOf N → ShapedSoundBytes l

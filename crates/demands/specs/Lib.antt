@@ -1,2 +1,2 @@
--- The bytes that a bench can come to.
+-- The bytes that a bench can come to, and what they are.
 pub mod Reachable

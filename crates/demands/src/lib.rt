@@ -1,1 +1,1 @@
-// The third sentence to be printed, over bytes: theorems only (specs/ and proofs/).
+// Demand 3 over bytes: theorems only (specs/ and proofs/).

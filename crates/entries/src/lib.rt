@@ -10,7 +10,7 @@ ghost use Prim.Native.Nat.{_<_};
 ghost use lib.Dec.{eqb};
 ghost use Rattle.bits.specs.Masks as mask;
 ghost use Rattle.bits.specs.Sums.{bit};
-ghost use Rattle.protocol.specs.Net.{nil, largestClock};
+ghost use Rattle.protocol.specs.Net.{nil, mostStations, largestClock};
 ghost use Rattle.protocol.specs.Entries as rule;
 
 fn joins(e: Entry) -> bool
@@ -48,7 +48,7 @@ pub fn ticked(mut e: Entry) -> Entry
 }
 
 pub fn waits_on(mut e: Entry, q: u8) -> Entry
-    requires { ⌜ q < 16 ⌝ }
+    requires { ⌜ q < mostStations ⌝ }
     ensures { λ r. ⌜ r ≡ rule.waitsOn e q ⌝ }
 {
     e.waiting = bits::mask::with(e.waiting, q);
@@ -56,7 +56,7 @@ pub fn waits_on(mut e: Entry, q: u8) -> Entry
 }
 
 pub fn stops_waiting(mut e: Entry, q: u8) -> Entry
-    requires { ⌜ q < 16 ⌝ }
+    requires { ⌜ q < mostStations ⌝ }
     ensures { λ r. ⌜ r ≡ rule.stopsWaiting e q ⌝ }
 {
     e.waiting = bits::mask::without(e.waiting, q);
@@ -64,7 +64,7 @@ pub fn stops_waiting(mut e: Entry, q: u8) -> Entry
 }
 
 pub fn asking(mut e: Entry, q: u8) -> Entry
-    requires { ⌜ q < 16 ⌝ }
+    requires { ⌜ q < mostStations ⌝ }
     ensures { λ r. ⌜ r ≡ rule.asking e q ⌝ }
 {
     e.tentative = q;
@@ -73,7 +73,7 @@ pub fn asking(mut e: Entry, q: u8) -> Entry
 }
 
 pub fn with_child(mut e: Entry, s: u8) -> Entry
-    requires { ⌜ s < 16 ⌝ }
+    requires { ⌜ s < mostStations ⌝ }
     ensures { λ r. ⌜ r ≡ rule.withChild e s ⌝ }
 {
     e.children = bits::mask::with(e.children, s);
@@ -81,7 +81,7 @@ pub fn with_child(mut e: Entry, s: u8) -> Entry
 }
 
 pub fn without_child(mut e: Entry, x: u8) -> Entry
-    requires { ⌜ x < 16 ⌝ }
+    requires { ⌜ x < mostStations ⌝ }
     ensures { λ r. ⌜ r ≡ rule.withoutChild e x ⌝ }
 {
     e.children = bits::mask::without(e.children, x);
@@ -156,7 +156,7 @@ fn adopting(mut e: Entry, s: u8, m: Message) -> Entry
 
 // A reply from s is heard: the station waits on s no longer, and adopts it if the test passes.
 pub fn hearing(e: Entry, s: u8, m: Message) -> Entry
-    requires { ⌜ s < 16 ⌝ }
+    requires { ⌜ s < mostStations ⌝ }
     ensures { λ r. ⌜ r ≡ rule.hearing e s m ⌝ }
 {
     let f = stops_waiting(e, s);

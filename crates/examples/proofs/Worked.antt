@@ -29,7 +29,7 @@ use Rattle.protocol.specs.Rules.{room?, tick, ask, answered, heard, deliver, me
 use Rattle.protocol.specs.Steps.{verdict, rule, outcome, step}
 use Rattle.protocol.specs.Runs.{then, after, lengthOutcome, scriptOutcome, run}
 use Rattle.protocol.specs.Shaped.{ShapedPlan}
-use Rattle.protocol.specs.ExampleNets.{scriptOf, joined, planBy, net, every, groupFits, differ, cableFits, planFits, entryFits, messageFits, proper}
+use Rattle.protocol.specs.ExampleNets.{scriptOf, neighboursBy, planBy, net, every, groupFits, differ, cableFits, planFits, entryFits, messageFits, proper}
 use Rattle.protocol.specs.Examples.{line, listingScript, listed}
 use Rattle.protocol.proofs.examples.Nets.{proper-shaped}
 use Rattle.channel.specs.Slots.{flat, laid}
@@ -44,7 +44,7 @@ use Rattle.forms.proofs.plan.Back.{plan-back}
 use Rattle.net.specs.View.{view}
 use Rattle.net.specs.Encode.{entryBytes, bytesOf}
 use Rattle.fresh.specs.Fresh.{freshOutcome, netAfterFresh}
-use Rattle.run.specs.Runs.{netAfterRun, tallyAfterRun}
+use Rattle.run.specs.Runs.{runOutcome, netAfterRun, tallyAfterRun}
 use Rattle.run.specs.Tallies.{tallyLength, tallyBytes}
 use Rattle.visit.specs.Lists.{listLength, listFits, reachBytes}
 use Rattle.call.specs.Answers.{calledIn, listAfterCall}
@@ -73,7 +73,7 @@ worked-holds : HoldsPlan linePlan (ofVersion1 planLength) workedPlan
 worked-holds = subst (HoldsPlan linePlan (ofVersion1 planLength)) same-bytes (plan-holds linePlan (ofVersion1 planLength) [])
   where
     same-bytes : planBytes linePlan (ofVersion1 planLength) ++ [] ≡ workedPlan
-    same-bytes = unfold workedPlan planBytes headerBytes cells groupCell maskCell nameBytes bytes part net planBy fresh joined with has in refl
+    same-bytes = unfold workedPlan planBytes headerBytes cells groupCell maskCell nameBytes bytes part net planBy fresh neighboursBy with has in refl
 
 pub worked-shows : planIn workedPlan ≡ linePlan
 worked-shows = plan-back linePlan line-shaped (ofVersion1 planLength) workedPlan worked-holds
@@ -82,7 +82,7 @@ worked-shows = plan-back linePlan line-shaped (ofVersion1 planLength) workedPlan
 listing-computed : (proper listed ≡ true) × (scriptOutcome (scriptOf listingScript) ≡ 0)
     × (tallyBytes (run (net line) (scriptOf listingScript) .tally) ≡ workedTally)
     × (called (net listed) 0 2 true ≡ record { outcome = 0; reached = 3; copies = 2 }) × (reachBytes (reachList (net listed) 0) ≡ workedList)
-unfolding proper planFits every groupFits differ cableFits net planBy fresh joined scriptOf has with without
+unfolding proper planFits every groupFits differ cableFits net planBy fresh neighboursBy scriptOf has with without
     upd upd2 removeAt setEntry setChannel setRoute send takeAt group? station? near? joins connected stayOrLeave adopts hearing
     room? tick ask answered heard deliver member route rules verdict rule outcome step then after lengthOutcome scriptOutcome run
     agreed climbs onTree picked visits visit reach passesTo flood spread treeOf callOutcome called reachList reachBytes tallyBytes bytes
@@ -133,7 +133,7 @@ worked-reachable = begun workedPlan _ (worked-begins _ (length-replicate {A = �
 
 -- ---- the net
 pub worked-net : WorkedNet (bytesOf (net workedNet))
-unfolding net planBy fresh joined scriptOf has with upd upd2 setEntry setChannel setRoute send group? station? near?
+unfolding net planBy fresh neighboursBy scriptOf has with upd upd2 setEntry setChannel setRoute send group? station? near?
     route rules verdict rule outcome step then after lengthOutcome scriptOutcome run
     bytesOf planBytes headerBytes cells groupCell maskCell used nameBytes entryBytes laid flat bytes part
 worked-net = record {
@@ -151,5 +151,5 @@ worked-tells = bytes-tell (net workedNet) (proper-shaped workedNet is-proper)
   where
     is-proper : proper workedNet ≡ true
     is-proper = unfold proper planFits every groupFits differ cableFits entryFits messageFits below within sameName
-        net planBy fresh joined scriptOf has with upd upd2 setEntry setChannel setRoute send group? station? near?
+        net planBy fresh neighboursBy scriptOf has with upd upd2 setEntry setChannel setRoute send group? station? near?
         route rules verdict rule outcome step then after lengthOutcome scriptOutcome run in refl

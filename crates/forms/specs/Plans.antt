@@ -8,7 +8,7 @@ use Rattle.bits.specs.Numbers.{bytes}
 use Rattle.bits.specs.Parts.{part}
 use Rattle.protocol.specs.Net.{mostStations, mostGroups}
 use Rattle.protocol.specs.Fresh.{Plan}
-use Rattle.layout.specs.Layout.{stations, groups, groupSize, groupAt, root, neighbours}
+use Rattle.layout.specs.Layout.{stations, groups, nameSize, groupSize, groupAt, root, maskSize, neighbours}
 use Rattle.plan.specs.Planned.{Header}
 use Rattle.forms.specs.Cells.{cells, ifUsed}
 
@@ -23,7 +23,7 @@ planIn l =
     record {
       stations = stations l;
       groups = groups l;
-      name = λ g. cond (ltb g (groups l)) (nameOf (part 17 l (groupAt g))) [];
+      name = λ g. cond (ltb g (groups l)) (nameOf (part nameSize l (groupAt g))) [];
       root = λ g. cond (ltb g (groups l)) (root l g) 0;
       neighbours = λ p. cond (ltb p (stations l)) (neighbours l p) 0;
     }
@@ -31,7 +31,7 @@ planIn l =
 -- ---- the bytes of a plan
 -- a name: its length, and its bytes in a field of sixteen
 unfoldable pub nameBytes : List ℕ → List ℕ
-nameBytes n = part 17 (length n ∷ n) 0
+nameBytes n = part nameSize (length n ∷ n) 0
 
 module _ (P : Plan) where
   -- "length, 4 bytes", version, stations, groups, byte 7
@@ -42,8 +42,8 @@ module _ (P : Plan) where
   groupCell g = ifUsed (ltb g (P .groups)) (nameBytes (P .name g) ++ (P .root g ∷ []))
 
   unfoldable pub maskCell : ℕ → List ℕ
-  maskCell p = ifUsed (ltb p (P .stations)) (bytes 2 (P .neighbours p))
+  maskCell p = ifUsed (ltb p (P .stations)) (bytes maskSize (P .neighbours p))
 
   -- the first 112 bytes, of a plan or a net with this header
   unfoldable pub planBytes : Header → List ℕ
-  planBytes h = headerBytes h ++ (cells groupSize mostGroups groupCell ++ cells 2 mostStations maskCell)
+  planBytes h = headerBytes h ++ (cells groupSize mostGroups groupCell ++ cells maskSize mostStations maskCell)

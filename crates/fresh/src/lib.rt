@@ -3,7 +3,7 @@ use bits::copy::put;
 use bits::number::put32;
 use bits::number::wide;
 use layout::front;
-use layout::place;
+use layout::offset;
 use protocol::Entry;
 use protocol::NIL;
 ghost use mathlib.Core.Path.{_≡_};
@@ -22,7 +22,7 @@ fn routes_from(net: &mut [u8], p: usize, n: usize)
 {
     let mut d = 0;
     while d < n {
-        net[place::route_at(p, d)] = NIL;
+        net[offset::route_at(p, d)] = NIL;
         d += 1;
     }
 }
@@ -56,8 +56,8 @@ fn blank_entry(net: &mut [u8], g: usize, p: u8)
     requires { ⌜ (length (now net) ≡ netLength) × (g < mostGroups) × (p < mostStations) ⌝ }
     ensures { λ _. ⌜ now (net .exit) ≡ entryBlank (now (net .entry)) g p ⌝ }
 {
-    let a = place::stretch_at(g);
-    access::change::write_entry(&mut net[a..a + place::STRETCH_SIZE], p, blank());
+    let a = offset::entry_row_at(g);
+    access::change::write_entry(&mut net[a..a + offset::ENTRY_ROW_SIZE], p, blank());
 }
 
 // So are those of the n stations.
@@ -91,7 +91,7 @@ fn lay(plan: &[u8], net: &mut [u8])
     let n = front::stations(plan);
     bits::copy::fill(net, 0);
     put(net, 0, plan);
-    put32(net, 0, place::NET_LENGTH as u32);
+    put32(net, 0, offset::NET_LENGTH as u32);
     routes(net, wide(n));
     entries(net, wide(front::groups(plan)), n);
 }
@@ -100,7 +100,7 @@ fn lay(plan: &[u8], net: &mut [u8])
 pub fn fresh(plan: &[u8], net: &mut [u8]) -> u8
     ensures { λ r. ⌜ (r ≡ freshOutcome (now (plan .entry)) (now (net .entry))) × (now (net .exit) ≡ netAfterFresh (now (plan .entry)) (now (net .entry))) ⌝ }
 {
-    if net.len() != place::NET_LENGTH {
+    if net.len() != offset::NET_LENGTH {
         return 10;
     }
     if plan::whole::plan_shaped(plan) {

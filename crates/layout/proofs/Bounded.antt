@@ -1,5 +1,7 @@
--- Laws of the bounded tests.
---     table-done, table-at, table-rest, table-of    the same of a table; grid-rest, grid-of of a table of tables
+-- Laws of the bounded tests of bytes.
+--     zeros-at, zeros-of                            what the test of a stretch says, and when it passes
+--     table-done, table-at, table-rest, table-of    a loop over a table ends, what the test of a table says, and when it passes
+--     grid-rest, grid-of                            the same of a table of tables
 use mathlib.Core.Path.{_≡_, subst, ap, ap₂, _∙_}
 use mathlib.Core.List.{List}
 use mathlib.Core.Logic.{_⊎_, inl, inr, ⊎-elim}

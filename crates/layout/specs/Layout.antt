@@ -1,4 +1,4 @@
--- "The bytes of a net": the table of document 01. Every offset and width is named here once. (A plan is the first 112 bytes.)
+-- "The bytes of a net": the table of document 01. Offsets and widths of its tables, each named once. (A plan is the first 112 bytes.)
 use mathlib.Core.List.{List}
 use Prim.Native.Nat.{ℕ, _+_, _*_}
 use lib.ListN.{getD}
@@ -23,8 +23,11 @@ abbrev pub groups : List ℕ → ℕ
 groups l = byte l 6
 
 -- ---- 8: "4 groups of 18: name length, 16 name bytes, root"
+abbrev pub nameSize : ℕ
+nameSize = 1 + longestName
+
 abbrev pub groupSize : ℕ
-groupSize = 1 + longestName + 1
+groupSize = nameSize + 1
 
 abbrev pub groupsAt : ℕ
 groupsAt = 8
@@ -36,44 +39,50 @@ abbrev pub nameLength : List ℕ → ℕ → ℕ
 nameLength l g = byte l (groupAt g)
 
 abbrev pub root : List ℕ → ℕ → ℕ
-root l g = byte l (groupAt g + 17)
+root l g = byte l (groupAt g + nameSize)
 
 -- ---- 80: "16 neighbour masks of 2 bytes; bit j is station j"
 abbrev pub masksAt : ℕ
 masksAt = 80
 
+abbrev pub maskSize : ℕ
+maskSize = 2
+
 abbrev pub maskAt : ℕ → ℕ
-maskAt p = masksAt + 2 * p
+maskAt p = masksAt + maskSize * p
 
 abbrev pub neighbours : List ℕ → ℕ → ℕ
-neighbours l p = numberAt 2 l (maskAt p)
+neighbours l p = numberAt maskSize l (maskAt p)
 
 -- ---- 112: "16 x 16 routes: the next station from p towards d"
 abbrev pub routesAt : ℕ
 routesAt = 112
 
+abbrev pub routeRowSize : ℕ
+routeRowSize = mostStations
+
 abbrev pub routeAt : ℕ → ℕ → ℕ
-routeAt p d = routesAt + mostStations * p + d
+routeAt p d = routesAt + routeRowSize * p + d
 
 abbrev pub route : List ℕ → ℕ → ℕ → ℕ
 route l p d = byte l (routeAt p d)
 
 -- ---- 368: "4 x 16 station entries of 12, by group, then station: parent, tentative parent, member, zero, clock (4), children
--- mask (2), waiting mask (2)". A group's entries are one stretch
+-- mask (2), waiting mask (2)". A group's entries are one row
 abbrev pub entriesAt : ℕ
 entriesAt = 368
 
 abbrev pub entrySize : ℕ
 entrySize = 12
 
-abbrev pub stretchSize : ℕ
-stretchSize = mostStations * entrySize
+abbrev pub entryRowSize : ℕ
+entryRowSize = mostStations * entrySize
 
-abbrev pub stretchAt : ℕ → ℕ
-stretchAt g = entriesAt + stretchSize * g
+abbrev pub entryRowAt : ℕ → ℕ
+entryRowAt g = entriesAt + entryRowSize * g
 
 abbrev pub entryAt : ℕ → ℕ → ℕ
-entryAt g p = stretchAt g + entrySize * p
+entryAt g p = entryRowAt g + entrySize * p
 
 -- ---- 1136: "16 x 16 channels of 57, by sender, then receiver: count, then 8 messages of 7"
 abbrev pub messageSize : ℕ
@@ -85,11 +94,11 @@ channelSize = 1 + capacity * messageSize
 abbrev pub channelsAt : ℕ
 channelsAt = 1136
 
-abbrev pub channelRow : ℕ
-channelRow = mostStations * channelSize
+abbrev pub channelRowSize : ℕ
+channelRowSize = mostStations * channelSize
 
 abbrev pub channelAt : ℕ → ℕ → ℕ
-channelAt s d = channelsAt + channelRow * s + channelSize * d
+channelAt s d = channelsAt + channelRowSize * s + channelSize * d
 
 -- message i of the channel at `at`
 abbrev pub messageAt : ℕ → ℕ → ℕ

@@ -1,5 +1,5 @@
 // What the front of a plan or a net says: its first 112 bytes are laid out alike.
-use crate::place;
+use crate::offset;
 ghost use mathlib.Core.Path.{_≡_};
 ghost use Prim.Native.Nat.{_≤_, _<_};
 ghost use lib.ListN.{length};
@@ -28,7 +28,7 @@ pub fn name_length(s: &[u8], g: usize) -> u8
     requires { ⌜ (planLength ≤ length (now s)) × (g < mostGroups) ⌝ }
     ensures { λ r. ⌜ r ≡ front.nameLength (now (s .entry)) g ⌝ }
 {
-    s[place::group_at(g)]
+    s[offset::group_at(g)]
 }
 
 // The root of group g.
@@ -36,7 +36,7 @@ pub fn root(s: &[u8], g: usize) -> u8
     requires { ⌜ (planLength ≤ length (now s)) × (g < mostGroups) ⌝ }
     ensures { λ r. ⌜ r ≡ front.root (now (s .entry)) g ⌝ }
 {
-    s[place::group_at(g) + place::ROOT_AT]
+    s[offset::group_at(g) + offset::NAME_SIZE]
 }
 
 // The neighbours of station p.
@@ -44,5 +44,5 @@ pub fn neighbours(s: &[u8], p: usize) -> u16
     requires { ⌜ (planLength ≤ length (now s)) × (p < mostStations) ⌝ }
     ensures { λ r. ⌜ r ≡ front.neighbours (now (s .entry)) p ⌝ }
 {
-    bits::number::get16(s, place::mask_at(p))
+    bits::number::get16(s, offset::mask_at(p))
 }

@@ -1,4 +1,4 @@
 // Where each thing stands among the bytes of a net, and tests over stretches of bytes.
 pub mod front;
-pub mod place;
+pub mod offset;
 pub mod stretch;

@@ -5,7 +5,7 @@ ghost use lib.ListN.{length};
 ghost use Rattle.layout.specs.Bounded.{zeros, same};
 
 // Whether the bytes from a up to e are zero.
-pub fn all_zero(s: &[u8], a: usize, e: usize) -> bool
+pub fn zeros(s: &[u8], a: usize, e: usize) -> bool
     requires { ⌜ (a ≤ e) × (e ≤ length (now s)) ⌝ }
     ensures { λ r. ⌜ r ≡ zeros (now (s .entry)) a e ⌝ }
 {
@@ -18,7 +18,7 @@ pub fn all_zero(s: &[u8], a: usize, e: usize) -> bool
 }
 
 // Whether the n bytes from a and from b are the same.
-pub fn all_same(s: &[u8], a: usize, b: usize, n: usize) -> bool
+pub fn same(s: &[u8], a: usize, b: usize, n: usize) -> bool
     requires { ⌜ (a + n ≤ length (now s)) × (b + n ≤ length (now s)) ⌝ }
     ensures { λ r. ⌜ r ≡ same (now (s .entry)) a b n ⌝ }
 {

@@ -99,7 +99,7 @@ module _ (l : List ℕ) (g c n : ℕ) (a : Answer) (bs : List ℕ) where
               ∙ sym (unfold recordsAfterCall in rw (h, t) refl);
         }
 
--- the two ways of the walk: into 48 bytes for a list of sixteen, into none for any other
+-- the two ways of the call over bytes: into 48 bytes for a list of sixteen, into none for any other
 module _ (l : List ℕ) (g c n : ℕ) (a : Answer) (out out′ : List ℕ) (said : call.CallEnd l g c out a out′) where
   pub fills-sixteen : (k : Filling) → n ≡ mostStations → length out ≡ listLength → length out′ ≡ listLength → k ≡ fillingOf a out′
       → FillsList l g c n k

@@ -12,7 +12,8 @@ use borrow.Author.Tests.{ne-eqb}
 use Rattle.bits.proofs.Cases.{by-lt}
 use Rattle.protocol.specs.Steps.{orElse}
 use Rattle.protocol.proofs.steps.Steps.{orElse-pass}
-use Rattle.protocol.specs.Runs.{longestScript, lengthOutcome, scriptOutcome}
+use Rattle.protocol.specs.Net.{longestScript}
+use Rattle.protocol.specs.Runs.{lengthOutcome, scriptOutcome}
 use Rattle.layout.specs.Layout.{planLength}
 use Rattle.plan.specs.Planned.{planShaped}
 use Rattle.run.proofs.Lengths.{length-fits}

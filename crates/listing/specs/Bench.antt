@@ -6,7 +6,8 @@ use lib.Dec.{eqb}
 use lib.ListN.{length, take, drop}
 use Rattle.protocol.specs.Fresh.{fresh}
 use Rattle.protocol.specs.Steps.{orElse}
-use Rattle.protocol.specs.Runs.{RunState, longestScript, lengthOutcome, scriptOutcome, run}
+use Rattle.protocol.specs.Runs.{RunState, lengthOutcome, scriptOutcome, run}
+use Rattle.protocol.specs.Net.{longestScript}
 use Rattle.layout.specs.Layout.{planLength}
 use Rattle.plan.specs.Planned.{planShaped}
 use Rattle.listing.specs.Lines.{listing, refusedText}

@@ -1,10 +1,9 @@
 -- The lines of the listing, over the book's net.
-use mathlib.Core.Path.{_≡_, refl}
 use mathlib.Core.List.{List, [], _∷_, _++_}
 use Prim.Native.Nat.{ℕ}
 use Rattle.protocol.specs.declared.Tally.{Tally}
-use Rattle.protocol.specs.Net.{Net, nil, inChannels}
-use Rattle.text.specs.Text.{text, filled, each, maskList, orDash, hex, nil as dashed}
+use Rattle.protocol.specs.Net.{Net, inChannels}
+use Rattle.text.specs.Text.{text, filled, each, maskList, orDash, hex}
 
 -- "The first line is the tally and the messages left in channels"
 unfoldable pub runLine : Tally → ℕ → List ℕ
@@ -13,10 +12,7 @@ runLine t left =
     (t .accepted ∷ t .refused ∷ t .sent ∷ t .delivered ∷ t .lost ∷ left ∷ [])
 
 -- "a line for each station, opening with its number": "`-` is nil or none; children rise, split by commas". What is a dash in print is
--- nil in the net
-same-nil : dashed ≡ nil
-same-nil = refl
-
+-- nil in the net (`same-nil`, proofs/Dashes.antt)
 unfoldable pub stationLine : Net → ℕ → ℕ → List ℕ
 stationLine N g p =
     filled (text "# parent @ clock # member # children ") (p ∷ N .entry g p .parent ∷ N .entry g p .clock ∷ N .entry g p .member ∷ [])

@@ -11,7 +11,7 @@ ghost use lib.ListN.{length};
 ghost use Rattle.protocol.specs.Net.{Net, inChannels};
 ghost use Rattle.net.specs.View.{view};
 ghost use Rattle.access.specs.inner.Nets.{IsNet};
-ghost use Rattle.text.specs.Text.{WroteWithin};
+ghost use Rattle.text.specs.inner.Within.{WroteWithin};
 ghost use Rattle.listing.specs.Lines.{runLine, stationLine, stationLines, groupLine, groupTexts, listing, refusedText};
 
 // The tally, and how many messages are left in channels.

@@ -1,7 +1,7 @@
 // The report on an input: the listing, or the refusal.
 use crate::lines;
-use layout::place::NET_LENGTH;
-use layout::place::PLAN_LENGTH;
+use layout::offset::NET_LENGTH;
+use layout::offset::PLAN_LENGTH;
 ghost use mathlib.Core.Path.{_≡_};
 ghost use Prim.Native.Nat.{_≤_, _<_};
 ghost use lib.ListN.{length};

@@ -23,7 +23,7 @@ use Rattle.layout.specs.Layout.{byte, entrySize, messageSize}
 use Rattle.layout.proofs.Bounded.{zeros-of}
 use Rattle.channel.specs.Messages.{messageOf, messageBytes}
 use Rattle.channel.proofs.Messages.{length-messageBytes, message-back, slot-back}
-use Rattle.shape.specs.Shape.{nilOr, routeShaped, entryUpright, entryAttached, entryShaped, messageShaped}
+use Rattle.shape.specs.Shape.{nilOr, routeShaped, parentsShaped, memberAndMasksShaped, entryShaped, messageShaped}
 use Rattle.shape.proofs.Nets.{route-near, route-self, parent-near, tentative-near, at-root, member-at, children-near, waiting-near, message-numbers, message-bare}
 use Rattle.forms.specs.Cells.{EachByte}
 use Rattle.forms.specs.Places.{Place, PlanBounds}
@@ -91,7 +91,7 @@ module _ (c : Place) (e : Entry) (F : PlanBounds c) (G : ShapedEntry (c .near) (
       (each-number 4 (e .clock))) (each-number 2 (e .children))) (each-number 2 (e .waiting))
 
   pub entry-passes : (l : List ℕ) (at : ℕ) → Bytes l → part entrySize l at ≡ entryBytes e → entryShaped (c .near) (c .root) (c .col) l at ≡ true
-  unfolding entryShaped entryUpright entryAttached entryBytes
+  unfolding entryShaped parentsShaped memberAndMasksShaped entryBytes
   entry-passes l at b i =
       let shown = sym (fields l at) ∙ ap entryOf i ∙ entry-back e fits-entry in
       let gap : byte l (at + 3) ≡ 0 = sym (getD-part entrySize l at 3 (omega arith)) ∙ ap (λ (b : List ℕ). getD b 3 0) i in

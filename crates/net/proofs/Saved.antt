@@ -18,7 +18,7 @@ use Rattle.protocol.specs.Net.{Net, capacity, mostStations, mostGroups, setEntr
 use Rattle.protocol.specs.Fresh.{planOf}
 use Rattle.protocol.specs.Shaped.{version1, Shaped}
 use Rattle.protocol.proofs.shape.Changes.{blank-shaped}
-use Rattle.layout.specs.Layout.{netLength, stations, groups, routesAt, routeAt, route, entriesAt, entrySize, stretchSize, entryAt, channelsAt, channelSize, channelRow, channelAt, messageSize}
+use Rattle.layout.specs.Layout.{netLength, stations, groups, routesAt, routeAt, route, entriesAt, entrySize, entryRowSize, entryAt, channelsAt, channelSize, channelRowSize, channelAt, messageSize}
 use Rattle.channel.specs.Messages.{messagesOf, channelBytes}
 use Rattle.channel.specs.inner.Channels.{IsChannel}
 use Rattle.channel.proofs.Messages.{length-messages}
@@ -43,10 +43,10 @@ abbrev pub routeGrid : Grid mostStations mostStations
 routeGrid = byRows routesAt 1 16 16 16 refl (omega arith) (omega arith) routeAt (λ i j. omega arith)
 
 abbrev pub entryGrid : Grid mostGroups mostStations
-entryGrid = byRows entriesAt entrySize 16 stretchSize 4 refl (omega arith) (omega arith) entryAt (λ i j. refl)
+entryGrid = byRows entriesAt entrySize 16 entryRowSize 4 refl (omega arith) (omega arith) entryAt (λ i j. refl)
 
 abbrev pub channelGrid : Grid mostStations mostStations
-channelGrid = byRows channelsAt channelSize 16 channelRow 16 refl (omega arith) (omega arith) channelAt (λ i j. refl)
+channelGrid = byRows channelsAt channelSize 16 channelRowSize 16 refl (omega arith) (omega arith) channelAt (λ i j. refl)
 
 abbrev pub saved : Form version1
 saved = record {

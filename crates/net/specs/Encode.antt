@@ -5,7 +5,7 @@ use Rattle.bits.specs.Numbers.{bytes}
 use Rattle.protocol.specs.declared.Entry.{Entry}
 use Rattle.protocol.specs.Net.{Net, mostStations, mostGroups}
 use Rattle.protocol.specs.Fresh.{planOf}
-use Rattle.layout.specs.Layout.{netLength, entrySize, stretchSize, channelSize, channelRow}
+use Rattle.layout.specs.Layout.{netLength, entrySize, entryRowSize, channelSize, channelRowSize}
 use Rattle.channel.specs.Messages.{channelBytes}
 use Rattle.plan.specs.Planned.{ofVersion1}
 use Rattle.forms.specs.Cells.{cells, used, ifUsed}
@@ -28,5 +28,5 @@ module _ (N : Net) where
   bytesOf =
       planBytes (planOf N) (ofVersion1 netLength)
       ++ (cells mostStations mostStations (λ p. cells 1 mostStations (routeCell p))
-      ++ (cells stretchSize mostGroups (λ g. cells entrySize mostStations (entryCell g))
-      ++ cells channelRow mostStations (λ s. cells channelSize mostStations (channelCell s))))
+      ++ (cells entryRowSize mostGroups (λ g. cells entrySize mostStations (entryCell g))
+      ++ cells channelRowSize mostStations (λ s. cells channelSize mostStations (channelCell s))))

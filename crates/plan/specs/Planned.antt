@@ -7,7 +7,7 @@ use lib.ListN.{length}
 use Rattle.bits.specs.Masks.{has, below}
 use Rattle.bits.specs.Parts.{numberAt}
 use Rattle.protocol.specs.Net.{mostStations, mostGroups, longestName}
-use Rattle.layout.specs.Layout.{byte, planLength, stations, groups, groupSize, groupAt, nameLength, root, neighbours}
+use Rattle.layout.specs.Layout.{byte, planLength, stations, groups, groupsAt, nameSize, groupSize, groupAt, nameLength, root, masksAt, maskSize, neighbours}
 use Rattle.bits.specs.Below.{allBelow, _implies_}
 use Rattle.layout.specs.Bounded.{allBytes, zeros, same, table}
 
@@ -34,11 +34,11 @@ headerShaped l h =
 unfoldable pub groupShaped : List ℕ → ℕ → ℕ → Bool
 groupShaped l n g =
     leb (nameLength l g) longestName && leb 1 (nameLength l g)
-    && zeros l (groupAt g + 1 + nameLength l g) (groupAt g + 17) && ltb (root l g) n
+    && zeros l (groupAt g + 1 + nameLength l g) (groupAt g + nameSize) && ltb (root l g) n
 
 -- the names of two groups are the same: their length, and their 16 bytes, of which the padding is zero
 unfoldable pub sameNames : List ℕ → ℕ → ℕ → Bool
-sameNames l a b = same l (groupAt a) (groupAt b) 17
+sameNames l a b = same l (groupAt a) (groupAt b) nameSize
 
 -- group a has the name of no group before it
 unfoldable pub newName : List ℕ → ℕ → Bool
@@ -59,8 +59,8 @@ stationCabled l n p = below n (neighbours l p) && not (has (neighbours l p) p) &
 -- the header, the groups and the cables, of a plan or a net with this header
 unfoldable pub planned : List ℕ → Header → Bool
 planned l h =
-    headerShaped l h && table l 8 groupSize mostGroups (groups l) (groupShaped l (stations l)) && namesDistinct l (groups l)
-    && table l 80 2 mostStations (stations l) (stationCabled l (stations l))
+    headerShaped l h && table l groupsAt groupSize mostGroups (groups l) (groupShaped l (stations l)) && namesDistinct l (groups l)
+    && table l masksAt maskSize mostStations (stations l) (stationCabled l (stations l))
 
 unfoldable pub planShaped : List ℕ → Bool
 planShaped l = eqb (length l) planLength && allBytes l && planned l (ofVersion1 planLength)

@@ -1,15 +1,16 @@
 // The cables: each station's mask of neighbours.
 use layout::front::neighbours;
-use layout::place::MASKS_AT;
-use layout::place::ROUTES_AT;
-use layout::stretch::all_zero;
+use layout::offset::MASK_SIZE;
+use layout::offset::MASKS_AT;
+use layout::offset::ROUTES_AT;
+use layout::stretch::zeros;
 ghost use mathlib.Core.Path.{_≡_};
 ghost use Prim.Native.Nat.{_≤_, _<_};
 ghost use lib.ListN.{length};
 ghost use Rattle.protocol.specs.Net.{mostStations};
 ghost use Rattle.bits.specs.Below.{allBelow};
 ghost use Rattle.layout.specs.Bounded.{table};
-ghost use Rattle.layout.specs.Layout.{planLength};
+ghost use Rattle.layout.specs.Layout.{planLength, masksAt, maskSize};
 ghost use Rattle.plan.specs.Planned as planned;
 
 // Whether q has p for a neighbour if p has q.
@@ -41,11 +42,11 @@ fn station_cabled(s: &[u8], n: usize, p: usize) -> bool
 
 pub fn cables_shaped(s: &[u8], n: usize) -> bool
     requires { ⌜ (planLength ≤ length (now s)) × (n ≤ mostStations) ⌝ }
-    ensures { λ r. ⌜ r ≡ table (now (s .entry)) 80 2 16 n (planned.stationCabled (now (s .entry)) n) ⌝ }
+    ensures { λ r. ⌜ r ≡ table (now (s .entry)) masksAt maskSize mostStations n (planned.stationCabled (now (s .entry)) n) ⌝ }
 {
     let mut ok = true;
     for p in 0..n {
         ok = ok & station_cabled(s, n, p);
     }
-    ok & all_zero(s, MASKS_AT + 2 * n, ROUTES_AT)
+    ok & zeros(s, MASKS_AT + MASK_SIZE * n, ROUTES_AT)
 }

@@ -2,12 +2,12 @@
 use bits::number::wide;
 use layout::front::groups;
 use layout::front::stations;
-use layout::place::GROUP_SIZE;
-use layout::place::GROUPS_AT;
-use layout::place::MASKS_AT;
-use layout::place::ROOT_AT;
-use layout::place::group_at;
-use layout::stretch::all_zero;
+use layout::offset::GROUP_SIZE;
+use layout::offset::GROUPS_AT;
+use layout::offset::MASKS_AT;
+use layout::offset::NAME_SIZE;
+use layout::offset::group_at;
+use layout::stretch::zeros;
 use protocol::LONGEST_NAME;
 use protocol::MOST_GROUPS;
 use protocol::MOST_STATIONS;
@@ -16,7 +16,7 @@ ghost use Prim.Native.Nat.{_≤_, _<_};
 ghost use lib.ListN.{length};
 ghost use Rattle.protocol.specs.Net.{mostGroups};
 ghost use Rattle.layout.specs.Bounded.{table};
-ghost use Rattle.layout.specs.Layout.{planLength};
+ghost use Rattle.layout.specs.Layout.{planLength, groupsAt, groupSize};
 ghost use Rattle.plan.specs.Planned as planned;
 
 // The first eight bytes of a plan or a net of this size.
@@ -43,18 +43,18 @@ fn group_shaped(s: &[u8], n: usize, g: usize) -> bool
         return false;
     }
     let at = group_at(g);
-    (1 <= m) & all_zero(s, at + 1 + m, at + ROOT_AT) & (wide(layout::front::root(s, g)) < n)
+    (1 <= m) & zeros(s, at + 1 + m, at + NAME_SIZE) & (wide(layout::front::root(s, g)) < n)
 }
 
 pub fn groups_shaped(s: &[u8], n: usize, g: usize) -> bool
     requires { ⌜ (planLength ≤ length (now s)) × (g ≤ mostGroups) ⌝ }
-    ensures { λ r. ⌜ r ≡ table (now (s .entry)) 8 18 4 g (planned.groupShaped (now (s .entry)) n) ⌝ }
+    ensures { λ r. ⌜ r ≡ table (now (s .entry)) groupsAt groupSize mostGroups g (planned.groupShaped (now (s .entry)) n) ⌝ }
 {
     let mut ok = true;
     for k in 0..g {
         ok = ok & group_shaped(s, n, k);
     }
-    ok & all_zero(s, GROUPS_AT + GROUP_SIZE * g, MASKS_AT)
+    ok & zeros(s, GROUPS_AT + GROUP_SIZE * g, MASKS_AT)
 }
 
 // Whether groups a and b have the same name.
@@ -62,7 +62,7 @@ fn same_names(s: &[u8], a: usize, b: usize) -> bool
     requires { ⌜ (planLength ≤ length (now s)) × (a < mostGroups) × (b < mostGroups) ⌝ }
     ensures { λ r. ⌜ r ≡ planned.sameNames (now (s .entry)) a b ⌝ }
 {
-    layout::stretch::all_same(s, group_at(a), group_at(b), ROOT_AT)
+    layout::stretch::same(s, group_at(a), group_at(b), NAME_SIZE)
 }
 
 // Whether no group before a has its name.

@@ -2,7 +2,7 @@
 use bits::number::wide;
 use layout::front::groups;
 use layout::front::stations;
-use layout::place::PLAN_LENGTH;
+use layout::offset::PLAN_LENGTH;
 ghost use mathlib.Core.Path.{_≡_};
 ghost use Prim.Native.Nat.{_≤_};
 ghost use lib.ListN.{length};

@@ -18,12 +18,12 @@ use Rattle.protocol.specs.declared.Entry.{Entry}
 use Rattle.protocol.specs.declared.Message.{Message}
 use Rattle.protocol.specs.Net.{Net, request, reply, inChannels}
 use Rattle.protocol.specs.Fresh.{Plan, blank, fresh}
-use Rattle.protocol.specs.Entries.{isOf, countOf, underway}
+use Rattle.protocol.specs.Entries.{isOf, countOf, underWay}
 use Rattle.protocol.specs.Steps.{rule, action?, outcome, step}
 use Rattle.protocol.specs.Runs.{countAccepted, countRefused, RunState, then, after}
 use Rattle.protocol.specs.Calls.{treeOf}
 use Rattle.protocol.specs.Shaped.{All, none, both, ShapedPlan, ShapedMessage, Shaped}
-use Rattle.protocol.specs.Sound.{Sound, SoundNet}
+use Rattle.protocol.specs.Sound.{Sound, ShapedSound}
 use Rattle.protocol.specs.Demands.{Demand3, KeepsParents}
 use Rattle.protocol.proofs.sound.Invariant.{InvariantIn, sound-invariant, invariant-sound}
 use Rattle.protocol.proofs.sound.Actions.{step-invariant}
@@ -36,11 +36,6 @@ use Rattle.protocol.proofs.Calls.{tree-rooted}
 use Rattle.protocol.proofs.sound.Room as room
 use Rattle.protocol.proofs.steps.Counts.{conserves}
 
--- well shaped and sound
-pub record ShapedSound (N : Net) : Type 0 where
-  pub shaped : Shaped N
-  pub sound : SoundNet N
-
 -- ---- a group past the last is blank, and has no message
 no-message : (k n g : ℕ) {l : List Message} → n ≤ g → All (ShapedMessage n) l → countOf k g l ≡ 0
 unfolding countOf
@@ -50,7 +45,7 @@ no-message k n g past (both {x = m} a h) =
     omega (arith, no-message k n g past h)
 
 no-group : (N : Net) → Shaped N → (g : ℕ) → N .groups ≤ g → InvariantIn N g
-unfolding underway
+unfolding underWay
 no-group N H g past = record {
   core = record {
     rootParent = λ p _. ap (λ (e : Entry). e .parent) (bare p);
@@ -73,7 +68,7 @@ invariant N G g = by-lt g (N .groups) (λ l. sound-invariant N (G .shaped) g (G 
 
 -- ---- a fresh net is shaped and sound, and every step, accepted or refused, with any numbers, keeps both
 fresh-invariant : (P : Plan) (g : ℕ) → InvariantIn (fresh P) g
-unfolding fresh underway countOf
+unfolding fresh underWay countOf
 fresh-invariant P g = record {
   core = record {
     rootParent = λ p _. refl;
@@ -102,7 +97,7 @@ step-shaped-sound N G k a b c = record {
 
 -- ---- 2. demand 3
 pub shaped-sound-demand3 : (N : Net) → ShapedSound N → Demand3 N
-unfolding underway treeOf
+unfolding underWay treeOf
 shaped-sound-demand3 N G = record {
   reaches = λ g p l n. let o : OnTree (treeOf N g) p = G .sound g l .chains p n in
       record { hops = o .hops; fewer = chain-short (treeOf N g) (tree-rooted N (G .shaped) g l) (o .chain); chain = o .chain };

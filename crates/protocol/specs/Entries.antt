@@ -94,5 +94,5 @@ countOf k g [] = 0
 countOf k g (m ∷ l) = bit (isOf k g m) + countOf k g l
 
 -- requests of p to q and q's replies to them that are in the channels C
-unfoldable pub underway : (ℕ → ℕ → List Message) → ℕ → ℕ → ℕ → ℕ
-underway C g p q = countOf request g (C p q) + countOf reply g (C q p)
+unfoldable pub underWay : (ℕ → ℕ → List Message) → ℕ → ℕ → ℕ → ℕ
+underWay C g p q = countOf request g (C p q) + countOf reply g (C q p)

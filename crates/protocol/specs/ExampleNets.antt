@@ -50,9 +50,9 @@ S by t = S having (t ∷ [])
 
 -- ---- the net
 -- the neighbours of station p, as a mask
-unfoldable pub joined : List Cable → ℕ → ℕ
-joined [] p = 0
-joined (c ∷ cs) p = let m = joined cs p in cond (eqb p (c .0)) (with m (c .1)) (cond (eqb p (c .1)) (with m (c .0)) m)
+unfoldable pub neighboursBy : List Cable → ℕ → ℕ
+neighboursBy [] p = 0
+neighboursBy (c ∷ cs) p = let m = neighboursBy cs p in cond (eqb p (c .0)) (with m (c .1)) (cond (eqb p (c .1)) (with m (c .0)) m)
 
 -- what stands where there is no group
 abbrev pub noGroup : Group
@@ -64,7 +64,7 @@ planBy gs n cs = record {
   groups = length gs;
   name = λ g. getD gs g noGroup .name;
   root = λ g. getD gs g noGroup .root;
-  neighbours = joined cs;
+  neighbours = neighboursBy cs;
 }
 
 unfoldable pub net : Start → Net

@@ -56,8 +56,8 @@ abbrev pub holds : Start → ℕ → ℕ → List Message → Row
 holds S s d l = record { start = S; says = sameNumbers (messageNumbers (net S .channel s d)) (messageNumbers l) }
 
 -- all channels together hold k
-abbrev pub underWay : Start → ℕ → Row
-underWay S k = record { start = S; says = eqb (inChannels (net S)) k }
+abbrev pub inAllChannels : Start → ℕ → Row
+inAllChannels S k = record { start = S; says = eqb (inChannels (net S)) k }
 
 -- ---- routes: the next station from p towards d is q
 abbrev pub leads : Start → ℕ → ℕ → ℕ → Row

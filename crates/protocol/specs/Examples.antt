@@ -11,7 +11,7 @@ use Rattle.protocol.specs.declared.Entry.{Entry}
 use Rattle.protocol.specs.declared.Message.{Message}
 use Rattle.protocol.specs.Net.{nil}
 use Rattle.protocol.specs.ExampleNets.{Step, Cable, Start, new, _knowing_, _carrying_, _having_, _by_}
-use Rattle.protocol.specs.ExampleRows.{Row, gives, giveEach, entry, knows, aRequest, aReply, holds, underWay, leads, counts, ends}
+use Rattle.protocol.specs.ExampleRows.{Row, gives, giveEach, entry, knows, aRequest, aReply, holds, inAllChannels, leads, counts, ends}
 use Rattle.protocol.specs.ExampleRows.{scriptGives, finds, calls, place, hasReach}
 
 -- ---- the plans
@@ -333,7 +333,7 @@ listed = line having listingScript
 abbrev ofListing : List Row
 ofListing =
     counts line listingScript 13 0 6 6 0
-    ∷ underWay listed 0
+    ∷ inAllChannels listed 0
     ∷ knows listed 0 0 (entry nil nil 0 1 0b010 0)
     ∷ knows listed 0 1 (entry 0 0 0 1 0b100 0)
     ∷ knows listed 0 2 (entry 1 1 1 1 0 0)

@@ -1,4 +1,4 @@
--- The net: stations joined by cables, groups, routes, what each station knows of each group, and the channels.
+-- The net: stations neighboursBy by cables, groups, routes, what each station knows of each group, and the channels.
 use mathlib.Core.Bool.{Bool, cond, _&&_}
 use mathlib.Core.List.{List, [], _∷_, _++_}
 use Prim.Native.Nat.{ℕ, zero, suc}
@@ -26,6 +26,10 @@ longestName = 16
 
 abbrev pub largestClock : ℕ
 largestClock = 4294967295
+
+-- a script's bytes
+abbrev pub longestScript : ℕ
+longestScript = 16384
 
 -- how many messages a channel of version 1 holds at most
 abbrev pub capacity : ℕ

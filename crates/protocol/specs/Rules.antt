@@ -8,7 +8,7 @@ use Rattle.bits.specs.Sums.{bit}
 use Rattle.bits.specs.Masks.{has}
 use Rattle.protocol.specs.declared.Message.{Message}
 use Rattle.protocol.specs.Net.{NetOf, Net, nil, largestClock, capacity, roomIn, request, setEntry, setRoute, send, takeAt, group?, station?, near?}
-use Rattle.protocol.specs.Entries.{joins, ticked, waitsOn, stopsWaiting, asking, withChild, withoutChild, stayOrLeave, withMember, requestOf, replyOf, hearing, underway}
+use Rattle.protocol.specs.Entries.{joins, ticked, waitsOn, stopsWaiting, asking, withChild, withoutChild, stayOrLeave, withMember, requestOf, replyOf, hearing, underWay}
 
 -- the messages that a step sends, delivers and loses
 pub record Traffic : Type 0 where
@@ -140,7 +140,7 @@ giveUp N g p q =
     let e = N .entry g p in
     record {
       operands = group? N g && near? N p q;
-      enabled = has (e .waiting) q && eqb (underway (N .channel) g p q) 0;
+      enabled = has (e .waiting) q && eqb (underWay (N .channel) g p q) 0;
       clockRoom = true;
       sendRoom = true;
       traffic = noTraffic;
@@ -154,7 +154,7 @@ dropChild N g p x =
     let e = N .entry g p in
     record {
       operands = group? N g && near? N p x;
-      enabled = has (e .children) x && not (eqb (N .entry g x .parent) p) && eqb (underway (N .channel) g x p) 0;
+      enabled = has (e .children) x && not (eqb (N .entry g x .parent) p) && eqb (underWay (N .channel) g x p) 0;
       clockRoom = true;
       sendRoom = true;
       traffic = noTraffic;

@@ -5,7 +5,7 @@ use Prim.Native.Nat.{ℕ, zero, suc, _+_, _*_, _/_, _%_}
 use lib.Dec.{eqb, leb}
 use lib.ListN.{length, getD}
 use Rattle.protocol.specs.declared.Tally.{Tally}
-use Rattle.protocol.specs.Net.{Net}
+use Rattle.protocol.specs.Net.{Net, longestScript}
 use Rattle.protocol.specs.Rules.{Rule}
 use Rattle.protocol.specs.Steps.{orElse, rule, outcome, step}
 
@@ -40,9 +40,6 @@ then R k a b c = record {
 unfoldable pub after : Net → List ℕ → ℕ → RunState
 after N s zero = record { net = N; tally = noTally }
 after N s (suc i) = then (after N s i) (getD s (4 * i) 0) (getD s (4 * i + 1) 0) (getD s (4 * i + 2) 0) (getD s (4 * i + 3) 0)
-
-abbrev pub longestScript : ℕ
-longestScript = 16384
 
 -- 11: "script length is not a multiple of 4"; 12: "script longer than 16,384 bytes"
 unfoldable pub lengthOutcome : ℕ → ℕ

@@ -86,8 +86,5 @@ pub record ShapedOf {E M : Type 0} (v : Version E M) (N : NetOf E M) : Type 0 wh
 abbrev pub version1 : Version Entry Message
 version1 = record { capacity = capacity; blank = blank; EntryShaped = λ n. ShapedEntry; MessageShaped = λ n. ShapedMessage }
 
-abbrev pub ShapedChannel : (n g nb d : ℕ) → List Message → Type 0
-ShapedChannel = ShapedChannelOf version1
-
 abbrev pub Shaped : Net → Type 0
 Shaped = ShapedOf version1

@@ -7,9 +7,9 @@ use Rattle.bits.specs.Masks.{has}
 use Rattle.tree.specs.Tree.{OnTree}
 use Rattle.protocol.specs.declared.Entry.{Entry}
 use Rattle.protocol.specs.Net.{Net, nil, reply}
-use Rattle.protocol.specs.Entries.{joins, connected, underway}
+use Rattle.protocol.specs.Entries.{joins, connected, underWay}
 use Rattle.protocol.specs.Calls.{treeOf}
-use Rattle.protocol.specs.Shaped.{All}
+use Rattle.protocol.specs.Shaped.{All, Shaped}
 
 -- station q, whose entry is e, in a group with root r: it is "a connected station that lists the receiver and whose clock
 -- is at least the reply's", where the receiver is p and the clock k
@@ -20,9 +20,9 @@ pub record Vouches (r q : ℕ) (e : Entry) (p k : ℕ) : Type 0 where
 
 pub record Sound (N : Net) (g : ℕ) : Type 0 where
   -- "a station waits on a neighbour wherever a request or its reply is in the channels,
-  pub waits : (p q : ℕ) → 0 < underway (N .channel) g p q → has (N .entry g p .waiting) q ≡ true
+  pub waits : (p q : ℕ) → 0 < underWay (N .channel) g p q → has (N .entry g p .waiting) q ≡ true
   -- and there is at most one message of the two kinds together;
-  pub single : (p q : ℕ) → underway (N .channel) g p q ≤ 1
+  pub single : (p q : ℕ) → underWay (N .channel) g p q ≤ 1
   -- a station with a parent or tentative parent joins;
   pub parentJoins : (p : ℕ) → N .entry g p .parent ≢ nil → joins (N .entry g p) ≡ true
   pub tentativeJoins : (p : ℕ) → N .entry g p .tentative ≢ nil → joins (N .entry g p) ≡ true
@@ -38,3 +38,8 @@ pub record Sound (N : Net) (g : ℕ) : Type 0 where
 -- "A net is sound when all its groups are"
 abbrev pub SoundNet : Net → Type 0
 SoundNet N = (g : ℕ) → g < N .groups → Sound N g
+
+-- well shaped and sound
+pub record ShapedSound (N : Net) : Type 0 where
+  pub shaped : Shaped N
+  pub sound : SoundNet N

@@ -2,7 +2,7 @@
 use action::Answer;
 use action::answers::accepted;
 use action::answers::refused;
-use action::operands::of_path;
+use action::operands::of_route;
 ghost use Rattle.protocol.specs.Rules as rule;
 ghost use Rattle.net.specs.View.{view};
 ghost use Rattle.access.specs.inner.Nets.{IsNet};
@@ -12,7 +12,7 @@ pub fn route(net: &mut [u8], p: u8, d: u8, q: u8) -> Answer
     requires { ⌜ IsNet (now net) ⌝ }
     ensures { λ r. ⌜ ActionEnd (rule.route (view (now (net .entry))) p d q) (now (net .entry)) r (now (net .exit)) ⌝ }
 {
-    if !of_path(net, p, d, q) {
+    if !of_route(net, p, d, q) {
         return refused(3);
     }
     access::change::set_route(net, p, d, q);

@@ -5,7 +5,8 @@ use native.Mathlib.Omega.{arith}
 use lib.Dec.{eqb, leb}
 use borrow.Author.Tests.{leb-true}
 use Rattle.protocol.specs.Steps.{orElse}
-use Rattle.protocol.specs.Runs.{longestScript, lengthOutcome}
+use Rattle.protocol.specs.Net.{longestScript}
+use Rattle.protocol.specs.Runs.{lengthOutcome}
 use Rattle.protocol.proofs.steps.Steps.{orElse-pass}
 
 pub length-fits : (n : ℕ) → lengthOutcome n ≡ 0 → n ≤ longestScript

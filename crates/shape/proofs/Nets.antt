@@ -17,7 +17,7 @@ use Rattle.layout.proofs.Bounded.{bytes-of, zeros-at}
 use Rattle.layout.proofs.Facts.{facts}
 use Rattle.plan.specs.Planned.{Header, ofVersion1, planned}
 use Rattle.plan.proofs.Plans.{counts}
-use Rattle.shape.specs.Shape.{nilOr, routeShaped, entryUpright, entryAttached, entryShaped, messageShaped, laidOut, shaped}
+use Rattle.shape.specs.Shape.{nilOr, routeShaped, parentsShaped, memberAndMasksShaped, entryShaped, messageShaped, laidOut, shaped}
 
 pub nil-or : (m r : ℕ) → nilOr m r ≡ true → r ≢ nil → has m r ≡ true
 unfolding nilOr
@@ -34,36 +34,36 @@ module _ (nb p d : ℕ) (l : List ℕ) (at : ℕ) (e : routeShaped nb p d l at �
   route-self = (simp facts at e) .1
 
 module _ (nb r p : ℕ) (l : List ℕ) (at : ℕ) (e : entryShaped nb r p l at ≡ true) where
-  upright : entryUpright nb r p l at ≡ true
+  upright : parentsShaped nb r p l at ≡ true
   unfolding entryShaped
-  upright = and-l (entryUpright nb r p l at) (entryAttached nb l at) e
+  upright = and-l (parentsShaped nb r p l at) (memberAndMasksShaped nb l at) e
 
-  attached : entryAttached nb l at ≡ true
+  attached : memberAndMasksShaped nb l at ≡ true
   unfolding entryShaped
-  attached = and-r (entryUpright nb r p l at) (entryAttached nb l at) e
+  attached = and-r (parentsShaped nb r p l at) (memberAndMasksShaped nb l at) e
 
   pub parent-near : byte l at ≢ nil → has nb (byte l at) ≡ true
-  unfolding entryUpright
+  unfolding parentsShaped
   parent-near = nil-or _ _ ((simp facts at upright) .0 .0)
 
   pub tentative-near : byte l (at + 1) ≢ nil → has nb (byte l (at + 1)) ≡ true
-  unfolding entryUpright
+  unfolding parentsShaped
   tentative-near = nil-or _ _ ((simp facts at upright) .0 .1)
 
   pub at-root : r ≡ p → (byte l at ≡ nil) × (byte l (at + 1) ≡ nil)
-  unfolding entryUpright
+  unfolding parentsShaped
   at-root = (simp facts at upright) .1
 
   pub member-at : (byte l (at + 2) ≤ 1) × (byte l (at + 3) ≡ 0)
-  unfolding entryAttached
+  unfolding memberAndMasksShaped
   member-at = let f = simp facts at attached in omega arith
 
   pub children-near : within mostStations (numberAt 2 l (at + 8)) nb ≡ true
-  unfolding entryAttached
+  unfolding memberAndMasksShaped
   children-near = (simp facts at attached) .0 .1
 
   pub waiting-near : within mostStations (numberAt 2 l (at + 10)) nb ≡ true
-  unfolding entryAttached
+  unfolding memberAndMasksShaped
   waiting-near = (simp facts at attached) .1
 
 module _ (g : ℕ) (l : List ℕ) (at : ℕ) (e : messageShaped g l at ≡ true) where

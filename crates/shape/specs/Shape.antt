@@ -7,7 +7,7 @@ use lib.ListN.{length}
 use Rattle.bits.specs.Masks.{has, within}
 use Rattle.bits.specs.Parts.{numberAt}
 use Rattle.protocol.specs.Net.{nil, mostStations, mostGroups, capacity, request, reply}
-use Rattle.layout.specs.Layout.{byte, netLength, stations, groups, root, neighbours, routesAt, routeAt, entriesAt, entrySize, stretchSize, stretchAt, entryAt, channelsAt, channelRow, channelSize, channelAt, messageSize, messageAt}
+use Rattle.layout.specs.Layout.{byte, netLength, stations, groups, root, neighbours, routesAt, routeAt, entriesAt, entrySize, entryRowSize, entryRowAt, entryAt, channelsAt, channelRowSize, channelSize, channelAt, messageSize, messageAt}
 use Rattle.bits.specs.Below.{_implies_}
 use Rattle.layout.specs.Bounded.{allBytes, zeros, table}
 use Rattle.plan.specs.Planned.{between, ofVersion1, planned}
@@ -22,17 +22,17 @@ unfoldable pub routeShaped : (nb p d : ℕ) → List ℕ → ℕ → Bool
 routeShaped nb p d l at = nilOr nb (byte l at) && (eqb p d implies eqb (byte l at) nil)
 
 -- "parent and tentative parent are nil or neighbours, both nil at the root": of station p, where r is the root
-unfoldable pub entryUpright : (nb r p : ℕ) → List ℕ → ℕ → Bool
-entryUpright nb r p l at =
+unfoldable pub parentsShaped : (nb r p : ℕ) → List ℕ → ℕ → Bool
+parentsShaped nb r p l at =
     nilOr nb (byte l at) && nilOr nb (byte l (at + 1)) && (eqb r p implies (eqb (byte l at) nil && eqb (byte l (at + 1)) nil))
 
 -- "member is 0 or 1; children and waiting lie within the neighbours"; the fourth byte is zero
-unfoldable pub entryAttached : (nb : ℕ) → List ℕ → ℕ → Bool
-entryAttached nb l at =
+unfoldable pub memberAndMasksShaped : (nb : ℕ) → List ℕ → ℕ → Bool
+memberAndMasksShaped nb l at =
     leb (byte l (at + 2)) 1 && eqb (byte l (at + 3)) 0 && within mostStations (numberAt 2 l (at + 8)) nb && within mostStations (numberAt 2 l (at + 10)) nb
 
 unfoldable pub entryShaped : (nb r p : ℕ) → List ℕ → ℕ → Bool
-entryShaped nb r p l at = entryUpright nb r p l at && entryAttached nb l at
+entryShaped nb r p l at = parentsShaped nb r p l at && memberAndMasksShaped nb l at
 
 -- "kind is 1 (request) or 2 (reply), group below g, connected 0 or 1, and both connected and clock zero in a request"
 unfoldable pub messageShaped : (g : ℕ) → List ℕ → ℕ → Bool
@@ -50,23 +50,23 @@ channelShaped nb g d l at = countShaped nb d l at && table l (at + 1) messageSiz
 -- ---- the three tables of a net of n stations and g groups, row by row: "every byte of an unused .. station, route (either end not below
 -- n), channel or message is zero, its nil places included"
 module _ (l : List ℕ) (n : ℕ) where
-  abbrev pub routeRow : ℕ → Bool
-  routeRow p = table l (routesAt + mostStations * p) 1 mostStations n (λ d. routeShaped (neighbours l p) p d l (routeAt p d))
+  abbrev pub routeRowShaped : ℕ → Bool
+  routeRowShaped p = table l (routesAt + mostStations * p) 1 mostStations n (λ d. routeShaped (neighbours l p) p d l (routeAt p d))
 
   unfoldable pub routesShaped : Bool
-  routesShaped = table l routesAt mostStations mostStations n routeRow
+  routesShaped = table l routesAt mostStations mostStations n routeRowShaped
 
-  abbrev pub entryRow : ℕ → Bool
-  entryRow k = table l (stretchAt k) entrySize mostStations n (λ p. entryShaped (neighbours l p) (root l k) p l (entryAt k p))
+  abbrev pub entryRowShaped : ℕ → Bool
+  entryRowShaped k = table l (entryRowAt k) entrySize mostStations n (λ p. entryShaped (neighbours l p) (root l k) p l (entryAt k p))
 
   unfoldable pub entriesShaped : (g : ℕ) → Bool
-  entriesShaped g = table l entriesAt stretchSize mostGroups g entryRow
+  entriesShaped g = table l entriesAt entryRowSize mostGroups g entryRowShaped
 
-  abbrev pub channelsFrom : (g s : ℕ) → Bool
-  channelsFrom g s = table l (channelsAt + channelRow * s) channelSize mostStations n (λ d. channelShaped (neighbours l s) g d l (channelAt s d))
+  abbrev pub channelRowShaped : (g s : ℕ) → Bool
+  channelRowShaped g s = table l (channelsAt + channelRowSize * s) channelSize mostStations n (λ d. channelShaped (neighbours l s) g d l (channelAt s d))
 
   unfoldable pub channelsShaped : (g : ℕ) → Bool
-  channelsShaped g = table l channelsAt channelRow mostStations n (channelsFrom g)
+  channelsShaped g = table l channelsAt channelRowSize mostStations n (channelRowShaped g)
 
 unfoldable pub laidOut : List ℕ → Bool
 laidOut l =

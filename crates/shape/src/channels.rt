@@ -1,13 +1,13 @@
 // The channels.
 use bits::number::wide;
 use layout::front::neighbours;
-use layout::place::CHANNEL_ROW;
-use layout::place::CHANNEL_SIZE;
-use layout::place::CHANNELS_AT;
-use layout::place::MESSAGE_SIZE;
-use layout::place::NET_LENGTH;
-use layout::place::channel_at;
-use layout::stretch::all_zero;
+use layout::offset::CHANNEL_ROW_SIZE;
+use layout::offset::CHANNEL_SIZE;
+use layout::offset::CHANNELS_AT;
+use layout::offset::MESSAGE_SIZE;
+use layout::offset::NET_LENGTH;
+use layout::offset::channel_at;
+use layout::stretch::zeros;
 use protocol::CAPACITY;
 use protocol::REPLY;
 use protocol::REQUEST;
@@ -17,7 +17,7 @@ ghost use lib.ListN.{length};
 ghost use Rattle.protocol.specs.Net.{capacity, mostStations};
 ghost use Rattle.layout.specs.Layout.{messageAt, channelSize, messageSize, netLength};
 ghost use Rattle.layout.specs.Bounded.{table};
-ghost use Rattle.shape.specs.Shape.{messageShaped, channelShaped, channelsFrom, channelsShaped};
+ghost use Rattle.shape.specs.Shape.{messageShaped, channelShaped, channelRowShaped, channelsShaped};
 
 fn message_shaped(s: &[u8], at: usize, g: usize) -> bool
     requires { ⌜ at + messageSize ≤ length (now s) ⌝ }
@@ -26,19 +26,19 @@ fn message_shaped(s: &[u8], at: usize, g: usize) -> bool
     ((REQUEST <= s[at]) & (s[at] <= REPLY))
         & (wide(s[at + 1]) < g)
         & (s[at + 2] <= 1)
-        & (!(s[at] == REQUEST) | all_zero(s, at + 2, at + MESSAGE_SIZE))
+        & (!(s[at] == REQUEST) | zeros(s, at + 2, at + MESSAGE_SIZE))
 }
 
 // The messages of the channel at `at`: the first m, and the others.
 fn messages_shaped(s: &[u8], at: usize, g: usize, m: usize) -> bool
     requires { ⌜ (at + channelSize ≤ length (now s)) × (m ≤ capacity) ⌝ }
-    ensures { λ r. ⌜ r ≡ table (now (s .entry)) (at + 1) 7 8 m (λ i. messageShaped g (now (s .entry)) (messageAt at i)) ⌝ }
+    ensures { λ r. ⌜ r ≡ table (now (s .entry)) (at + 1) messageSize capacity m (λ i. messageShaped g (now (s .entry)) (messageAt at i)) ⌝ }
 {
     let mut ok = true;
     for i in 0..m {
         ok = ok & message_shaped(s, at + 1 + MESSAGE_SIZE * i, g);
     }
-    ok & all_zero(s, at + 1 + MESSAGE_SIZE * m, at + CHANNEL_SIZE)
+    ok & zeros(s, at + 1 + MESSAGE_SIZE * m, at + CHANNEL_SIZE)
 }
 
 // The channel at `at`, to station d from one whose neighbours are m.
@@ -53,17 +53,17 @@ fn channel_shaped(s: &[u8], at: usize, m: u16, g: usize, d: usize) -> bool
     ((count == 0) | bits::mask::has_at(m, d)) & messages_shaped(s, at, g, wide(count))
 }
 
-fn channels_from(s: &[u8], n: usize, g: usize, p: usize) -> bool
+fn channel_row_shaped(s: &[u8], n: usize, g: usize, p: usize) -> bool
     requires { ⌜ (netLength ≤ length (now s)) × (n ≤ mostStations) × (p < mostStations) ⌝ }
-    ensures { λ r. ⌜ r ≡ channelsFrom (now (s .entry)) n g p ⌝ }
+    ensures { λ r. ⌜ r ≡ channelRowShaped (now (s .entry)) n g p ⌝ }
 {
     let m = neighbours(s, p);
     let mut ok = true;
     for d in 0..n {
         ok = ok & channel_shaped(s, channel_at(p, d), m, g, d);
     }
-    let row = CHANNELS_AT + CHANNEL_ROW * p;
-    ok & all_zero(s, row + CHANNEL_SIZE * n, row + CHANNEL_ROW)
+    let row = CHANNELS_AT + CHANNEL_ROW_SIZE * p;
+    ok & zeros(s, row + CHANNEL_SIZE * n, row + CHANNEL_ROW_SIZE)
 }
 
 pub fn channels_shaped(s: &[u8], n: usize, g: usize) -> bool
@@ -72,7 +72,7 @@ pub fn channels_shaped(s: &[u8], n: usize, g: usize) -> bool
 {
     let mut ok = true;
     for p in 0..n {
-        ok = ok & channels_from(s, n, g, p);
+        ok = ok & channel_row_shaped(s, n, g, p);
     }
-    ok & all_zero(s, CHANNELS_AT + CHANNEL_ROW * n, NET_LENGTH)
+    ok & zeros(s, CHANNELS_AT + CHANNEL_ROW_SIZE * n, NET_LENGTH)
 }

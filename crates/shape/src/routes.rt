@@ -1,17 +1,17 @@
 // The routes.
 use layout::front::neighbours;
-use layout::place::ENTRIES_AT;
-use layout::place::ROUTE_ROW;
-use layout::place::ROUTES_AT;
-use layout::place::route_at;
-use layout::stretch::all_zero;
+use layout::offset::ENTRIES_AT;
+use layout::offset::ROUTE_ROW_SIZE;
+use layout::offset::ROUTES_AT;
+use layout::offset::route_at;
+use layout::stretch::zeros;
 use protocol::NIL;
 ghost use mathlib.Core.Path.{_≡_};
 ghost use Prim.Native.Nat.{_≤_, _<_};
 ghost use lib.ListN.{length};
 ghost use Rattle.protocol.specs.Net.{mostStations};
 ghost use Rattle.layout.specs.Layout.{netLength};
-ghost use Rattle.shape.specs.Shape.{nilOr, routeShaped, routeRow, routesShaped};
+ghost use Rattle.shape.specs.Shape.{nilOr, routeShaped, routeRowShaped, routesShaped};
 
 // Whether r is nil or one of the neighbours m.
 pub fn nil_or(m: u16, r: u8) -> bool
@@ -28,17 +28,17 @@ fn route_shaped(s: &[u8], at: usize, m: u16, p: usize, d: usize) -> bool
     nil_or(m, s[at]) & (!(p == d) | (s[at] == NIL))
 }
 
-fn route_row(s: &[u8], n: usize, p: usize) -> bool
+fn route_row_shaped(s: &[u8], n: usize, p: usize) -> bool
     requires { ⌜ (netLength ≤ length (now s)) × (n ≤ mostStations) × (p < mostStations) ⌝ }
-    ensures { λ r. ⌜ r ≡ routeRow (now (s .entry)) n p ⌝ }
+    ensures { λ r. ⌜ r ≡ routeRowShaped (now (s .entry)) n p ⌝ }
 {
     let m = neighbours(s, p);
     let mut ok = true;
     for d in 0..n {
         ok = ok & route_shaped(s, route_at(p, d), m, p, d);
     }
-    let row = ROUTES_AT + ROUTE_ROW * p;
-    ok & all_zero(s, row + n, row + ROUTE_ROW)
+    let row = ROUTES_AT + ROUTE_ROW_SIZE * p;
+    ok & zeros(s, row + n, row + ROUTE_ROW_SIZE)
 }
 
 pub fn routes_shaped(s: &[u8], n: usize) -> bool
@@ -47,7 +47,7 @@ pub fn routes_shaped(s: &[u8], n: usize) -> bool
 {
     let mut ok = true;
     for p in 0..n {
-        ok = ok & route_row(s, n, p);
+        ok = ok & route_row_shaped(s, n, p);
     }
-    ok & all_zero(s, ROUTES_AT + ROUTE_ROW * n, ENTRIES_AT)
+    ok & zeros(s, ROUTES_AT + ROUTE_ROW_SIZE * n, ENTRIES_AT)
 }

@@ -2,7 +2,7 @@
 use bits::number::wide;
 use layout::front::groups;
 use layout::front::stations;
-use layout::place::NET_LENGTH;
+use layout::offset::NET_LENGTH;
 ghost use mathlib.Core.Path.{_≡_};
 ghost use lib.ListN.{length};
 ghost use Rattle.layout.specs.Layout.{netLength};

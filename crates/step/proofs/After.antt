@@ -26,7 +26,7 @@ use Rattle.protocol.proofs.steps.Steps.{step-plan, refused-same}
 use Rattle.protocol.proofs.shape.Actions.{step-shaped}
 use Rattle.protocol.proofs.steps.Aparts.{step-apart, route-apart, step-channels, step-routes}
 use Rattle.channel.specs.Messages.{channelBytes}
-use Rattle.layout.specs.Layout.{netLength, routeAt, entrySize, stretchSize, stretchAt, entryAt, channelAt, channelSize}
+use Rattle.layout.specs.Layout.{netLength, routeAt, entrySize, entryRowSize, entryRowAt, entryAt, channelAt, channelSize}
 use Rattle.plan.specs.Planned.{ofVersion1}
 use Rattle.shape.specs.Shape.{shaped}
 use Rattle.net.specs.View.{view}
@@ -39,10 +39,10 @@ use Rattle.net.proofs.Saved.{bytes-hold, seen, view-bytes, stands}
 use Rattle.forms.proofs.plan.Holds.{holds-plan}
 
 -- the stretch of a group's entries is the same if each of them is
-same-stretch : (o : ℕ) (x y : List ℕ) → ((p : ℕ) → p < mostStations → part entrySize x (entryAt o p) ≡ part entrySize y (entryAt o p)) → part stretchSize x (stretchAt o) ≡ part stretchSize y (stretchAt o)
+same-stretch : (o : ℕ) (x y : List ℕ) → ((p : ℕ) → p < mostStations → part entrySize x (entryAt o p) ≡ part entrySize y (entryAt o p)) → part entryRowSize x (entryRowAt o) ≡ part entryRowSize y (entryRowAt o)
 same-stretch o x y h =
-    sym (cells-of entrySize mostStations (λ p. part entrySize x (entryAt o p)) x (stretchAt o) (λ p _. part-whole entrySize _ (length-part entrySize x (entryAt o p))))
-    ∙ cells-of entrySize mostStations (λ p. part entrySize x (entryAt o p)) y (stretchAt o) (λ p hp. part-whole entrySize _ (length-part entrySize x (entryAt o p)) ∙ h p hp)
+    sym (cells-of entrySize mostStations (λ p. part entrySize x (entryAt o p)) x (entryRowAt o) (λ p _. part-whole entrySize _ (length-part entrySize x (entryAt o p))))
+    ∙ cells-of entrySize mostStations (λ p. part entrySize x (entryAt o p)) y (entryRowAt o) (λ p hp. part-whole entrySize _ (length-part entrySize x (entryAt o p)) ∙ h p hp)
 
 module _ (l : List ℕ) (k a b c : ℕ) where
   pub refused-after : stepOutcome l k a b c ≢ 0 → netAfterStep l k a b c ≡ l
@@ -102,10 +102,10 @@ module _ (l : List ℕ) (k a b c : ℕ) where
   pub after-routes : (p d : ℕ) → p < mostStations → d < mostStations → k ≢ 9 → part 1 (netAfterStep l k a b c) (routeAt p d) ≡ part 1 l (routeAt p d)
   after-routes p d hp hd n = by-bool (shaped l) (λ s. route-same s p d hp hd (step-routes (view l) k a b c n)) (λ f. rw (not-net f))
 
-  entries-same : (o : ℕ) → o < mostGroups → Untouched groupIn o (view l) (step (view l) k a b c) → part stretchSize (netAfterStep l k a b c) (stretchAt o) ≡ part stretchSize l (stretchAt o)
+  entries-same : (o : ℕ) → o < mostGroups → Untouched groupIn o (view l) (step (view l) k a b c) → part entryRowSize (netAfterStep l k a b c) (entryRowAt o) ≡ part entryRowSize l (entryRowAt o)
   entries-same o h U = same-stretch o (netAfterStep l k a b c) l (λ p hp. by-bool (shaped l) (λ s. entry-same s o p h hp (U .entries p)) (λ f. rw (not-net f)))
 
-  pub after-groups : (o : ℕ) → o < mostGroups → o ≢ groupOf (view l) k a b c → part stretchSize (netAfterStep l k a b c) (stretchAt o) ≡ part stretchSize l (stretchAt o)
+  pub after-groups : (o : ℕ) → o < mostGroups → o ≢ groupOf (view l) k a b c → part entryRowSize (netAfterStep l k a b c) (entryRowAt o) ≡ part entryRowSize l (entryRowAt o)
   after-groups o h n = entries-same o h (step-apart (view l) o k a b c n)
 
   -- and of what the bytes show
@@ -120,5 +120,5 @@ module _ (l : List ℕ) (k a b c : ℕ) where
 pub route-after-apart : (l : List ℕ) (a b c o : ℕ) → Untouched groupIn o (view l) (view (netAfterStep l 9 a b c))
 route-after-apart l a b c o = shown l 9 a b c o (route-apart (view l) o a b c)
 
-pub route-after-groups : (l : List ℕ) (a b c o : ℕ) → o < mostGroups → part stretchSize (netAfterStep l 9 a b c) (stretchAt o) ≡ part stretchSize l (stretchAt o)
+pub route-after-groups : (l : List ℕ) (a b c o : ℕ) → o < mostGroups → part entryRowSize (netAfterStep l 9 a b c) (entryRowAt o) ≡ part entryRowSize l (entryRowAt o)
 route-after-groups l a b c o h = entries-same l 9 a b c o h (route-apart (view l) o a b c)

@@ -14,7 +14,7 @@ use Rattle.protocol.specs.Steps.{verdict, action?, rule, outcome, step}
 use Rattle.net.specs.View.{view}
 use Rattle.access.specs.inner.Nets.{IsNet}
 use Rattle.action.specs.declared.Answer.{Answer}
-use Rattle.action.specs.inner.Ends.{refusedWith, answerBy, netAfterAction, ActionEnd}
+use Rattle.action.specs.inner.Ends.{refusedWith, actionAnswer, netAfterAction, ActionEnd}
 use Rattle.shape.specs.Shape.{shaped}
 use Rattle.step.specs.Steps.{stepOutcome, netAfterStep}
 use Rattle.step.specs.inner.Ends.{stepAnswer, StepEnd}
@@ -26,7 +26,7 @@ module _ (l : List ℕ) (r : IsNet l) (k a b c : ℕ) where
 
   -- an action did what its rule says
   takes : {d : Answer} {l' : List ℕ} → action? k ≡ true → ActionEnd R l d l' → StepEnd l k a b c d l'
-  unfolding stepAnswer outcome step answerBy netAfterAction
+  unfolding stepAnswer outcome step actionAnswer netAfterAction
   takes t D = record {
     answer = D .answer ∙ rw t refl;
     bytes = D .bytes ∙ by-bool (eqb (verdict R) 0) (λ e. rw (t, e) refl) (λ e. rw (t, e) (sym (view-bytes l (r .shape))));

@@ -11,7 +11,8 @@ use lib.ListN.{length, getD, drop}
 use lib.Seq.{drop-cons}
 use borrow.Author.Tests.{lt-ltb, ltb-true}
 use Rattle.bits.proofs.Cases.{by-lt, and-l, and-r}
-use Rattle.text.specs.Text.{isGap, inGap, filled, WroteWithin}
+use Rattle.text.specs.Text.{isGap, inGap, filled}
+use Rattle.text.specs.inner.Within.{WroteWithin}
 use Rattle.text.proofs.Puts.{within-of, within-none, within-as, _then_}
 
 drop-all : (l : List ℕ) (k : ℕ) → length l ≤ k → drop k l ≡ []

@@ -16,7 +16,8 @@ use lib.ListN.{length}
 use borrow.Author.Tests.{lt-ltb, le-ltb, eq-eqb, ne-eqb}
 use Rattle.bits.specs.Parts.{Wrote}
 use Rattle.bits.proofs.Parts.{length-splice, wrote-none, wrote-then}
-use Rattle.text.specs.Text.{some, row, byteIf, orDash, WroteWithin}
+use Rattle.text.specs.Text.{some, row, byteIf, orDash}
+use Rattle.text.specs.inner.Within.{WroteWithin}
 
 pub within-of : {o o′ : List ℕ} {i r k : ℕ} {xs : List ℕ} → Wrote o o′ i r xs → r ≤ i + k → WroteWithin k o o′ i r xs
 within-of {o} {o′} {i} {r} {k} {xs} W h = record { wrote = W; within = h; long = ap length (W .bytes) ∙ length-splice o i xs }

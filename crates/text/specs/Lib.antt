@@ -1,2 +1,3 @@
 -- Text in bytes.
 pub mod Text
+pub mod inner

@@ -1,14 +1,12 @@
 -- Text as bytes, and what a function leaves that puts it.
-use mathlib.Core.Path.{_≡_}
 use mathlib.Core.Bool.{Bool, true, false, cond, not, _&&_, _||_}
 use mathlib.Core.List.{List, [], _∷_, _++_}
-use Prim.Native.Nat.{ℕ, zero, suc, _+_, _/_, _%_, _≤_}
+use Prim.Native.Nat.{ℕ, zero, suc, _+_, _/_, _%_}
 use Prim.Native.Char.{code}
 use Prim.Native.String.{String, [] as none, _∷_ as _then_}
 use lib.Dec.{eqb, ltb}
 use lib.ListN.{length, getD}
 use Rattle.bits.specs.Masks.{has}
-use Rattle.bits.specs.Parts.{Wrote}
 
 -- the bytes of a quoted text
 unfoldable pub text : String → List ℕ
@@ -87,10 +85,3 @@ hexByte b = hexDigit (b / 16) ∷ hexDigit (b % 16) ∷ []
 
 unfoldable pub hex : List ℕ → List ℕ
 hex w = each (length w) (λ i. hexByte (getD w i 0))
-
--- ---- what a function leaves that puts `bs` into a lent buffer from index `i` on and answers the place after them: `room` bytes are enough;
--- that the buffer is as long as before follows, and is here for the callers' arithmetic
-pub record WroteWithin (room : ℕ) (out out′ : List ℕ) (i r : ℕ) (bs : List ℕ) : Type 0 where
-  pub wrote : Wrote out out′ i r bs
-  pub within : r ≤ i + room
-  pub long : length out′ ≡ length out

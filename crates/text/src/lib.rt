@@ -5,7 +5,8 @@ ghost use mathlib.Core.List.{[], _∷_};
 ghost use Prim.Native.Nat.{_+_, _*_, _^_, _≤_, _<_};
 ghost use lib.Dec.{ltb};
 ghost use lib.ListN.{length};
-ghost use Rattle.text.specs.Text.{digitsBy, decimal, isGap, isNil, inGap, filled, byteIf, orDash, maskItem, maskList, hexDigit, hexByte, hex, WroteWithin};
+ghost use Rattle.text.specs.Text.{digitsBy, decimal, isGap, isNil, inGap, filled, byteIf, orDash, maskItem, maskList, hexDigit, hexByte, hex};
+ghost use Rattle.text.specs.inner.Within.{WroteWithin};
 
 // One byte.
 pub fn put_byte(out: &mut [u8], at: usize, b: u8) -> usize

@@ -24,14 +24,14 @@ use Rattle.forms.proofs.form.Back.{stands}
 use Rattle.net.proofs.Codecs.{routeCodec}
 use Rattle.net.proofs.Saved.{routeGrid}
 use Rattle.version2.specs.Records.{Entry2, Message2, version2, entrySize2, messageSize2}
-use Rattle.version2.specs.Shape.{header2, stretchSize2, entryAt2, channelsAt2, channelSize2, channelRow2, channelAt2, channelShaped2, shaped2}
+use Rattle.version2.specs.Shape.{header2, entryRowSize2, entryAt2, channelsAt2, channelSize2, channelRowSize2, channelAt2, channelShaped2, shaped2}
 use Rattle.version2.proofs.Codecs.{entryCodec2, messageCodec2}
 
 abbrev pub entryGrid2 : Grid mostGroups mostStations
-entryGrid2 = byRows entriesAt entrySize2 16 stretchSize2 4 refl (omega arith) (omega arith) entryAt2 (λ i j. refl)
+entryGrid2 = byRows entriesAt entrySize2 16 entryRowSize2 4 refl (omega arith) (omega arith) entryAt2 (λ i j. refl)
 
 abbrev pub channelGrid2 : Grid mostStations mostStations
-channelGrid2 = byRows channelsAt2 channelSize2 16 channelRow2 16 refl (omega arith) (omega arith) channelAt2 (λ i j. refl)
+channelGrid2 = byRows channelsAt2 channelSize2 16 channelRowSize2 16 refl (omega arith) (omega arith) channelAt2 (λ i j. refl)
 
 abbrev pub saved2 : Form version2
 saved2 = record {

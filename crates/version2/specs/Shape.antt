@@ -20,11 +20,11 @@ abbrev pub header2 : Header
 header2 = record { size = netLength2; version = 2; byte7 = 0 }
 
 -- ---- where things stand behind the routes
-abbrev pub stretchSize2 : ℕ
-stretchSize2 = mostStations * entrySize2
+abbrev pub entryRowSize2 : ℕ
+entryRowSize2 = mostStations * entrySize2
 
 abbrev pub entryAt2 : ℕ → ℕ → ℕ
-entryAt2 g p = entriesAt + stretchSize2 * g + entrySize2 * p
+entryAt2 g p = entriesAt + entryRowSize2 * g + entrySize2 * p
 
 abbrev pub channelsAt2 : ℕ
 channelsAt2 = 1264
@@ -32,11 +32,11 @@ channelsAt2 = 1264
 abbrev pub channelSize2 : ℕ
 channelSize2 = 1 + capacity2 * messageSize2
 
-abbrev pub channelRow2 : ℕ
-channelRow2 = mostStations * channelSize2
+abbrev pub channelRowSize2 : ℕ
+channelRowSize2 = mostStations * channelSize2
 
 abbrev pub channelAt2 : ℕ → ℕ → ℕ
-channelAt2 s d = channelsAt2 + channelRow2 * s + channelSize2 * d
+channelAt2 s d = channelsAt2 + channelRowSize2 * s + channelSize2 * d
 
 -- ---- one thing whose bytes begin at `at`
 -- nil, or a station below n
@@ -65,7 +65,7 @@ shaped2 l =
     let g = groups l in
     eqb (length l) netLength2 && allBytes l
     && (planned l header2 && routesShaped l n
-    && table l entriesAt stretchSize2 mostGroups g (λ k. table l (entriesAt + stretchSize2 * k) entrySize2 mostStations n (λ p.
+    && table l entriesAt entryRowSize2 mostGroups g (λ k. table l (entriesAt + entryRowSize2 * k) entrySize2 mostStations n (λ p.
     entryShaped2 n (neighbours l p) p l (entryAt2 k p)))
-    && table l channelsAt2 channelRow2 mostStations n (λ s. table l (channelsAt2 + channelRow2 * s) channelSize2 mostStations n (λ d.
+    && table l channelsAt2 channelRowSize2 mostStations n (λ s. table l (channelsAt2 + channelRowSize2 * s) channelSize2 mostStations n (λ d.
     channelShaped2 n (neighbours l s) g d l (channelAt2 s d))))

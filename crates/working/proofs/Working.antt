@@ -24,7 +24,7 @@ use Rattle.forms.proofs.form.Back.{carried}
 use Rattle.net.specs.View.{view}
 use Rattle.net.specs.Encode.{bytesOf}
 use Rattle.net.proofs.Codecs.{routeCodec, entryCodec, messageCodec}
-use Rattle.net.proofs.Saved.{routeGrid, channelGrid, saved, view-is, bytes-are, shaped-is}
+use Rattle.net.proofs.Saved.{routeGrid, channelGrid, saved, view-is, bytes-are, shaped-is, view-bytes}
 use Rattle.working.specs.Working.{workingHeader, stationSize, entryByStation, stationsShaped, workingShaped}
 
 abbrev pub stationGrid : Grid mostGroups mostStations
@@ -60,6 +60,9 @@ to-saved l s =
     let w = carried working saved l (sym (working-is l) ∙ s) in
     let e = bytes-are (viewIn working l) in
     (ap shaped e ∙ shaped-is _ ∙ w .0, ap view e ∙ view-is _ ∙ w .1)
+
+pub there-and-back : (l : List ℕ) → shaped l ≡ true → bytesOf (viewIn working (bytesIn working (view l))) ≡ l
+there-and-back l s = ap bytesOf (to-working l s .1) ∙ view-bytes l s
 
 pub saved-or-working : (l : List ℕ) → shaped l ≡ true → workingShaped l ≡ true → ⊥
 saved-or-working l s t =

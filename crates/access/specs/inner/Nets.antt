@@ -13,7 +13,7 @@ use Rattle.net.specs.View.{view}
 pub record IsNet (l : List ℕ) : Type 0 where
   pub shape : shaped l ≡ true
   pub long : length l ≡ netLength
-  pub stationsAt : view l .stations ≡ stations l
-  pub groupsAt : view l .groups ≡ groups l
+  pub stationsShown : view l .stations ≡ stations l
+  pub groupsShown : view l .groups ≡ groups l
   pub few : view l .stations ≤ mostStations
   pub fewGroups : view l .groups ≤ mostGroups

@@ -21,14 +21,14 @@ refusedWith k = record { outcome = k; sent = 0; delivered = 0; lost = 0 }
 abbrev pub acceptedWith : Traffic → Answer
 acceptedWith t = record { outcome = 0; sent = t .sent; delivered = t .delivered; lost = t .lost }
 
-unfoldable pub answerBy : Rule Net → Answer
-answerBy R = cond (eqb (verdict R) 0) (acceptedWith (R .traffic)) (refusedWith (verdict R))
+unfoldable pub actionAnswer : Rule Net → Answer
+actionAnswer R = cond (eqb (verdict R) 0) (acceptedWith (R .traffic)) (refusedWith (verdict R))
 
 unfoldable pub netAfterAction : Rule Net → List ℕ → List ℕ
 netAfterAction R l = cond (eqb (verdict R) 0) (bytesOf (R .next)) l
 
 pub record ActionEnd (R : Rule Net) (l : List ℕ) (r : Answer) (l' : List ℕ) : Type 0 where
-  pub answer : r ≡ answerBy R
+  pub answer : r ≡ actionAnswer R
   pub bytes : l' ≡ netAfterAction R l
 
 -- what it takes that station p puts the entry e and sends to q, besides room: the net is well shaped in between

@@ -12,7 +12,7 @@ use Rattle.protocol.specs.Rules as rule
 use Rattle.net.specs.View.{view}
 use Rattle.net.specs.Encode.{bytesOf}
 use Rattle.action.proofs.Ends.{ends-3, ends-4, ends-6}
-use Rattle.deliver.specs.inner.Oldest.{Oldest}
+use Rattle.deliver.specs.inner.MayDeliver.{MayDeliver}
 use Rattle.deliver.proofs.Delivers.{request-ends, reply-ends}
 use borrow.Author.Needs.{needs}
 use Rattle.deliver.proofs.deliver.Statement.{statement}
@@ -40,7 +40,7 @@ between x = let o = operands x in search and-l
 some : (y : tie.Else2) → let s = y .before .before .before .before .before .before .before in 0 < length (N s .channel (s .args .s) (s .args .d))
 some y = subst (λ (n : ℕ). 0 < n) (y .before .in-channel .ensures) (omega (arith, y .if2 .left))
 
-may-take : (y : tie.Else2) → let s = y .before .before .before .before .before .before .before in Oldest (N s) (s .args .s) (s .args .d)
+may-take : (y : tie.Else2) → let s = y .before .before .before .before .before .before .before in MayDeliver (N s) (s .args .s) (s .args .d)
 may-take y = record { between = between (y .before .before .before); some = some y }
 
 enabled : (y : tie.Else2) → R (y .before .before .before .before .before .before .before) .enabled ≡ true

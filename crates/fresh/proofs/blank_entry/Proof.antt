@@ -10,8 +10,8 @@ use borrow.Author.Needs.{needs}
 use Rattle.fresh.proofs.blank_entry.Statement.{statement}
 use Rattle.fresh.proofs.blank_entry.Tie as tie
 
-stretch-at-requires : tie.Need-stretch-at-requires
-stretch-at-requires c κs = search needs
+entry-row-at-requires : tie.Need-entry-row-at-requires
+entry-row-at-requires c κs = search needs
 
 add-write-entry : tie.Need-add-write-entry
 add-write-entry c = search needs
@@ -38,16 +38,16 @@ returns : tie.Need-returns
 unfolding entryBlank
 returns c = let l = c .before .before .before .before .before .before .before .args .net .now in
     let p = c .before .before .before .before .before .before .before .args .p in
-    let a = c .before .before .before .before .before .stretch-at .result in
+    let a = c .before .before .before .before .before .entry-row-at .result in
     ap (back a (a + 192 - a) l) (c .before .before .write-entry .ensures)
     ∙ lent-back a (a + 192 - a) l (12 * p) (entryBytes (c .before .before .before .blank .result)) (omega (arith, length-entryBytes (c .before .before .before .blank .result)))
-    ∙ (λ i. splice l (c .before .before .before .before .before .stretch-at .ensures .0 i + 12 * p) (entryBytes (c .before .before .before .blank .ensures i)))
+    ∙ (λ i. splice l (c .before .before .before .before .before .entry-row-at .ensures .0 i + 12 * p) (entryBytes (c .before .before .before .blank .ensures i)))
 
 pub blank-entry-spec : {M : Type 1} → statement M
 blank-entry-spec =
     tie.close
     (tie.spec
-    stretch-at-requires
+    entry-row-at-requires
     add-write-entry
     sub-write-entry
     part-write-entry-start

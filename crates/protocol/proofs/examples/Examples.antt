@@ -11,14 +11,14 @@ use Rattle.tree.specs.Reach.{picked, visits, visit, reach}
 use Rattle.tree.specs.Flood.{passesTo, flood, spread}
 use Rattle.protocol.specs.Net.{upd, upd2, removeAt, setEntry, setChannel, setRoute, send, takeAt, group?, station?, near?, inChannels}
 use Rattle.protocol.specs.Fresh.{fresh}
-use Rattle.protocol.specs.Entries.{joins, connected, stayOrLeave, adopts, hearing, isOf, countOf, underway}
+use Rattle.protocol.specs.Entries.{joins, connected, stayOrLeave, adopts, hearing, isOf, countOf, underWay}
 use Rattle.protocol.specs.Rules.{room?, tick, ask, refresh, answered, heard, deliver, lose, giveUp, dropChild, member, route, rules}
 use Rattle.protocol.specs.Steps.{verdict, rule, outcome, step}
 use Rattle.protocol.specs.Runs.{then, after, lengthOutcome, scriptOutcome, run}
 use Rattle.protocol.specs.Names.{sameName, firstFrom, find}
 use Rattle.protocol.specs.Calls.{treeOf, callOutcome, called, reachList}
 use Rattle.protocol.specs.Shaped.{All, Shaped}
-use Rattle.protocol.specs.ExampleNets.{scriptOf, joined, planBy, net, every}
+use Rattle.protocol.specs.ExampleNets.{scriptOf, neighboursBy, planBy, net, every}
 use Rattle.protocol.specs.ExampleNets.{groupFits, differ, cableFits, planFits, entryFits, messageFits, proper}
 use Rattle.protocol.specs.ExampleRows.{Row, right, messageNumbers, placeNumbers}
 use Rattle.protocol.specs.Examples.{crowded, examples}
@@ -27,11 +27,11 @@ use Rattle.protocol.proofs.examples.Nets.{every-all, proper-shaped}
 
 pub examples-right : right examples ≡ true
 unfolding right messageNumbers placeNumbers examples crowded
-    scriptOf joined planBy net every groupFits differ cableFits planFits entryFits messageFits proper
+    scriptOf neighboursBy planBy net every groupFits differ cableFits planFits entryFits messageFits proper
     has with without below within over
     agreed climbs onTree picked visits visit reach passesTo flood spread
     upd upd2 removeAt setEntry setChannel setRoute send takeAt group? station? near? inChannels fresh
-    joins connected stayOrLeave adopts hearing isOf countOf underway
+    joins connected stayOrLeave adopts hearing isOf countOf underWay
     room? tick ask refresh answered heard deliver lose giveUp dropChild member route rules
     verdict rule outcome step then after lengthOutcome scriptOutcome run
     sameName firstFrom find treeOf callOutcome called reachList

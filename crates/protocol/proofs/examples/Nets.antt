@@ -18,7 +18,7 @@ use Rattle.protocol.specs.Net.{nil, mostStations, mostGroups, longestNam
 use Rattle.protocol.specs.Shaped.{All, none, both, ShapedPlan, ShapedEntry, ShapedMessage, Shaped}
 use Rattle.protocol.specs.Runs.{run}
 use Rattle.protocol.specs.Names.{sameName}
-use Rattle.protocol.specs.ExampleNets.{scriptOf, Cable, Group, noGroup, Start, new, _knowing_, _carrying_, _having_, joined, planBy, net}
+use Rattle.protocol.specs.ExampleNets.{scriptOf, Cable, Group, noGroup, Start, new, _knowing_, _carrying_, _having_, neighboursBy, planBy, net}
 use Rattle.protocol.specs.ExampleNets.{every, groupFits, differ, cableFits, planFits, entryFits, messageFits, proper}
 use Rattle.protocol.proofs.laws.Maps.{All-at, All-getD}
 use Rattle.protocol.proofs.Finds.{name-same}
@@ -47,34 +47,34 @@ differ-at (G ∷ gs) t (suc g) zero i j =
 differ-at (G ∷ gs) t (suc g) (suc h) i j = let a : differ gs ≡ true = search (and-l, and-r) in differ-at gs a g h (omega arith) (omega arith)
 
 -- a cable more takes none away
-joined-keeps : (c : Cable) (cs : List Cable) (p q : ℕ) → has (joined cs p) q ≡ true → has (joined (c ∷ cs) p) q ≡ true
-unfolding joined
+joined-keeps : (c : Cable) (cs : List Cable) (p q : ℕ) → has (neighboursBy cs p) q ≡ true → has (neighboursBy (c ∷ cs) p) q ≡ true
+unfolding neighboursBy
 joined-keeps c cs p q t = by-bool (eqb p (c .0))
-    (λ a. rw a (with-keeps (joined cs p) (c .1) q t))
-    (λ a. by-bool (eqb p (c .1)) (λ b. rw (a, b) (with-keeps (joined cs p) (c .0) q t)) (λ b. rw (a, b) t))
+    (λ a. rw a (with-keeps (neighboursBy cs p) (c .1) q t))
+    (λ a. by-bool (eqb p (c .1)) (λ b. rw (a, b) (with-keeps (neighboursBy cs p) (c .0) q t)) (λ b. rw (a, b) t))
 
 -- each end of it has the other
-joined-there : (c : Cable) (cs : List Cable) → has (joined (c ∷ cs) (c .0)) (c .1) ≡ true
-unfolding joined
-joined-there c cs = rw (eq-eqb (c .0) (c .0) refl) (with-hit (joined cs (c .0)) (c .1))
+joined-there : (c : Cable) (cs : List Cable) → has (neighboursBy (c ∷ cs) (c .0)) (c .1) ≡ true
+unfolding neighboursBy
+joined-there c cs = rw (eq-eqb (c .0) (c .0) refl) (with-hit (neighboursBy cs (c .0)) (c .1))
 
-joined-back : (c : Cable) (cs : List Cable) → c .0 ≢ c .1 → has (joined (c ∷ cs) (c .1)) (c .0) ≡ true
-unfolding joined
-joined-back c cs n = rw (ne-eqb (c .1) (c .0) (λ e. n (sym e)), eq-eqb (c .1) (c .1) refl) (with-hit (joined cs (c .1)) (c .0))
+joined-back : (c : Cable) (cs : List Cable) → c .0 ≢ c .1 → has (neighboursBy (c ∷ cs) (c .1)) (c .0) ≡ true
+unfolding neighboursBy
+joined-back c cs n = rw (ne-eqb (c .1) (c .0) (λ e. n (sym e)), eq-eqb (c .1) (c .1) refl) (with-hit (neighboursBy cs (c .1)) (c .0))
 
 -- and nobody else has more than before
-joined-by : {R : Type 0} (c : Cable) (cs : List Cable) (p q : ℕ) → has (joined (c ∷ cs) p) q ≡ true
-    → (p ≡ c .0 → q ≡ c .1 → R) → (p ≡ c .1 → q ≡ c .0 → R) → (has (joined cs p) q ≡ true → R) → R
-unfolding joined
+joined-by : {R : Type 0} (c : Cable) (cs : List Cable) (p q : ℕ) → has (neighboursBy (c ∷ cs) p) q ≡ true
+    → (p ≡ c .0 → q ≡ c .1 → R) → (p ≡ c .1 → q ≡ c .0 → R) → (has (neighboursBy cs p) q ≡ true → R) → R
+unfolding neighboursBy
 joined-by c cs p q t there back rest = by-bool (eqb p (c .0))
-    (λ a. by-eq q (c .1) (there (eqb-true _ _ a)) (λ n. rest (sym (with-miss (joined cs p) (c .1) q n) ∙ (rw a at t))))
+    (λ a. by-eq q (c .1) (there (eqb-true _ _ a)) (λ n. rest (sym (with-miss (neighboursBy cs p) (c .1) q n) ∙ (rw a at t))))
     (λ a. by-bool (eqb p (c .1))
-    (λ b. by-eq q (c .0) (back (eqb-true _ _ b)) (λ n. rest (sym (with-miss (joined cs p) (c .0) q n) ∙ (rw (a, b) at t))))
+    (λ b. by-eq q (c .0) (back (eqb-true _ _ b)) (λ n. rest (sym (with-miss (neighboursBy cs p) (c .0) q n) ∙ (rw (a, b) at t))))
     (λ b. rest (rw (a, b) at t)))
 
-cables-fits : (n : ℕ) (cs : List Cable) → every (cableFits n) cs ≡ true → (p q : ℕ) → has (joined cs p) q ≡ true
-    → (p < n) × (q < n) × (p ≢ q) × (has (joined cs q) p ≡ true)
-unfolding every cableFits joined
+cables-fits : (n : ℕ) (cs : List Cable) → every (cableFits n) cs ≡ true → (p q : ℕ) → has (neighboursBy cs p) q ≡ true
+    → (p < n) × (q < n) × (p ≢ q) × (has (neighboursBy cs q) p ≡ true)
+unfolding every cableFits neighboursBy
 cables-fits n [] f p q t = clash t (has-zero q)
 cables-fits n (c ∷ cs) f p q t =
     let a : ltb (c .0) n ≡ true = search (and-l, and-r) in

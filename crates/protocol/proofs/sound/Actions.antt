@@ -16,7 +16,7 @@ use Rattle.bits.proofs.Masks.{with-hit}
 use Rattle.protocol.specs.declared.Entry.{Entry}
 use Rattle.protocol.specs.declared.Message.{Message}
 use Rattle.protocol.specs.Net.{Net, nil, request, reply, upd, upd2, setEntry, setChannel, setRoute, removeAt, send, takeAt, station?, near?}
-use Rattle.protocol.specs.Entries.{joins, connected, withChild, requestOf, replyOf, adopts, hearing, isOf, countOf, underway}
+use Rattle.protocol.specs.Entries.{joins, connected, withChild, requestOf, replyOf, adopts, hearing, isOf, countOf, underWay}
 use Rattle.protocol.specs.Rules.{noMessage, oldest, tick, ask, refresh, answered, heard, deliver, lose, giveUp, dropChild, member, route, rules}
 use Rattle.protocol.specs.Steps.{step}
 use Rattle.protocol.specs.Shaped.{All, none, both, Shaped}
@@ -34,7 +34,7 @@ module _ {g r : ℕ} {E : ℕ → Entry} {C : ℕ → ℕ → List Message} (S :
   rechannelled K = record { core = K; rootTentative = S .rootTentative; parentJoins = S .parentJoins; tentativeJoins = S .tentativeJoins; ceiling = S .ceiling }
 
   -- what waits on nobody has nothing under way
-  pub idle : (p q : ℕ) → has (E p .waiting) q ≡ false → underway C g p q ≡ 0
+  pub idle : (p q : ℕ) → has (E p .waiting) q ≡ false → underWay C g p q ≡ 0
   idle p q f = let z : bit (has (E p .waiting) q) ≡ 0 = ap bit f in omega (arith, S .core .calls p q)
 
   -- the entry of p is e, which waits on q: its request may go out
@@ -62,7 +62,7 @@ module _ {g r : ℕ} {E : ℕ → Entry} {C : ℕ → ℕ → List Message} (S :
     -- it is a request: the receiver lists the sender and answers
     replied : oldest C s d .kind ≡ request
         → Invariant g r (upd E d (withChild (E d) s)) (sent (taken C s d 0) d s (replyOf g r d (withChild (E d) s)))
-    unfolding underway connected gone
+    unfolding underWay connected gone
     replied k = record {
       core = sending-reply (T .core) d s _ refl
           (upd-all (λ x (v : Entry). has (E x .waiting) d ≡ true → has (v .waiting) d ≡ true) (λ w. w) (λ x _ w. w) s waits)
@@ -82,7 +82,7 @@ module _ {g r : ℕ} {E : ℕ → Entry} {C : ℕ → ℕ → List Message} (S :
 
     -- it is a reply: the receiver waits no longer, and takes the sender for its parent if the test says so
     heeded : oldest C s d .kind ≡ reply → s ≢ nil → Invariant g r (upd E d (hearing (E d) s (oldest C s d))) (taken C s d 0)
-    unfolding hearing adopts underway
+    unfolding hearing adopts underWay
     heeded k n = by-bool (adopts (E d) s (oldest C s d))
         (λ t.
         let t1 : eqb (E d .tentative) s ≡ true = search (and-l, and-r) in
@@ -91,7 +91,7 @@ module _ {g r : ℕ} {E : ℕ → Entry} {C : ℕ → ℕ → List Message} (S :
         rw t (adopting-kept gone d s (oldest C s d) (eqb-true _ _ t1) n (All-at 0 noMessage h (S .core .words s d) k mine (eqb-true _ _ t2)) (ltb-true _ _ t3) done))
         (λ f. rw f (stops-waiting-kept gone d s done))
       where
-        done : underway (taken C s d 0) g d s ≡ 0
+        done : underWay (taken C s d 0) g d s ≡ 0
         done = omega (arith, fewer reply k, taken-le C s d request g 0 d s, S .core .calls d s, bit-le (has (E d .waiting) s))
 
 -- ---- the net: the group that the action is of, and the others
@@ -150,14 +150,14 @@ module _ (N : Net) {o : ℕ} (S : InvariantIn N o) where
   giveUp-keeps : (g p q : ℕ) → giveUp N g p q .enabled ≡ true → InvariantIn (giveUp N g p q .next) o
   unfolding giveUp setEntry
   giveUp-keeps g p q t =
-      let t1 : eqb (underway (N .channel) g p q) 0 ≡ true = search (and-l, and-r) in
+      let t1 : eqb (underWay (N .channel) g p q) 0 ≡ true = search (and-l, and-r) in
       in-group N g p _ _ S (λ T. stops-waiting-kept T p q (eqb-true _ _ t1)) (λ _. S)
 
   dropChild-keeps : (g p c : ℕ) → dropChild N g p c .enabled ≡ true → InvariantIn (dropChild N g p c .next) o
   unfolding dropChild setEntry
   dropChild-keeps g p c t =
       let t1 : not (eqb (N .entry g c .parent) p) ≡ true = search (and-l, and-r) in
-      let t2 : eqb (underway (N .channel) g c p) 0 ≡ true = search (and-l, and-r) in
+      let t2 : eqb (underWay (N .channel) g c p) 0 ≡ true = search (and-l, and-r) in
       in-group N g p _ _ S (λ T. dropping-kept T p c (ne-of _ _ t1) (eqb-true _ _ t2)) (λ _. S)
 
   member-keeps : (g p v : ℕ) → InvariantIn (member N g p v .next) o

@@ -13,7 +13,7 @@ use Rattle.bits.proofs.Cases.{by-eq}
 use Rattle.protocol.specs.declared.Entry.{Entry}
 use Rattle.protocol.specs.declared.Message.{Message}
 use Rattle.protocol.specs.Net.{nil, reply, upd}
-use Rattle.protocol.specs.Entries.{underway}
+use Rattle.protocol.specs.Entries.{underWay}
 use Rattle.protocol.specs.Shaped.{All}
 use Rattle.protocol.proofs.laws.Maps.{upd-hit, upd-miss, upd-all, All-map}
 use Rattle.protocol.proofs.sound.Leads.{Leads}
@@ -39,7 +39,7 @@ parents E p = E p .parent
 pub record Core (g : ℕ) (R : ℕ → Bool) (E : ℕ → Entry) (C : ℕ → ℕ → List Message) : Type 0 where
   pub rootParent : (p : ℕ) → R p ≡ true → E p .parent ≡ nil
   -- at most one request or reply is under way, and none unless the station waits
-  pub calls : (p q : ℕ) → underway C g p q ≤ bit (has (E p .waiting) q)
+  pub calls : (p q : ℕ) → underWay C g p q ≤ bit (has (E p .waiting) q)
   -- every parent lists the station, is connected, and its clock is at least the station's
   pub agreed : (p : ℕ) → E p .parent ≢ nil → Vouch (R (E p .parent)) (E (E p .parent)) p (E p .clock)
   -- a reply with flag 1 is the word of a station that vouches
@@ -49,7 +49,7 @@ pub record Core (g : ℕ) (R : ℕ → Bool) (E : ℕ → Entry) (C : ℕ → �
 -- what a new entry e at p, and its new root flag b, have to satisfy
 pub record Change (g : ℕ) (R : ℕ → Bool) (E : ℕ → Entry) (C : ℕ → ℕ → List Message) (p : ℕ) (b : Bool) (e : Entry) : Type 0 where
   pub rootParent : b ≡ true → e .parent ≡ nil
-  pub calls : (q : ℕ) → underway C g p q ≤ bit (has (e .waiting) q)
+  pub calls : (q : ℕ) → underWay C g p q ≤ bit (has (e .waiting) q)
   pub own : e .parent ≢ nil → (e .parent ≢ p) × Vouch (R (e .parent)) (E (e .parent)) p (e .clock)
   pub kids : (x : ℕ) → x ≢ p → E x .parent ≢ nil → E x .parent ≡ p → Vouch b e x (E x .clock)
   pub words : (x : ℕ) → All (Word g b e x) (C p x)
@@ -67,7 +67,7 @@ module _ {g : ℕ} {R : ℕ → Bool} {E : ℕ → Entry} {C : ℕ → ℕ → L
     rootParent = λ x. by-eq x p
         (λ i. rw (upd-hit R p b x i, upd-hit E p e x i) (K .rootParent))
         (λ n. rw (upd-miss R p b x n, upd-miss E p e x n) (S .rootParent x));
-    calls = upd-all (λ x (v : Entry). (q : ℕ) → underway C g x q ≤ bit (has (v .waiting) q)) (K .calls) (λ x _. S .calls x);
+    calls = upd-all (λ x (v : Entry). (q : ℕ) → underWay C g x q ≤ bit (has (v .waiting) q)) (K .calls) (λ x _. S .calls x);
     agreed = upd-all (λ x (v : Entry). v .parent ≢ nil → Vouch (upd R p b (v .parent)) (upd E p e (v .parent)) x (v .clock))
         (λ h. vouched (e .parent) p (e .clock) (λ i. absurd (K .own h .0 i)) (λ _. K .own h .1))
         (λ x n h. vouched (E x .parent) x (E x .clock) (K .kids x n h) (λ _. S .agreed x h));
@@ -89,7 +89,7 @@ module _ {g : ℕ} {R : ℕ → Bool} {E : ℕ → Entry} {C : ℕ → ℕ → L
   pub keeps : (e : Entry) → e .parent ≡ E p .parent
       → ((x : ℕ) → E x .parent ≢ nil → E x .parent ≡ p → Vouch (R p) e x (E x .clock)) → ((x : ℕ) → All (Word g (R p) e x) (C p x))
       → (e .parent ≢ nil → e .clock ≤ E p .clock)
-      → ((q : ℕ) → underway C g p q ≤ bit (has (e .waiting) q))
+      → ((q : ℕ) → underWay C g p q ≤ bit (has (e .waiting) q))
       → Core g (upd R p (R p)) (upd E p e) C
   keeps e i kids words still calls = put S p (R p) e (record {
     rootParent = λ t. i ∙ S .rootParent p t;
@@ -110,7 +110,7 @@ module _ {g : ℕ} {R : ℕ → Bool} {E : ℕ → Entry} {C : ℕ → ℕ → L
   -- and p vouches for whom it did
   pub steady : (e : Entry) → e .parent ≡ E p .parent → ((x k : ℕ) → Vouch (R p) (E p) x k → Vouch (R p) e x k)
       → (e .parent ≢ nil → e .clock ≤ E p .clock)
-      → ((q : ℕ) → underway C g p q ≤ bit (has (e .waiting) q))
+      → ((q : ℕ) → underWay C g p q ≤ bit (has (e .waiting) q))
       → Core g (upd R p (R p)) (upd E p e) C
   steady e i mono = keeps e i
       (λ x n h. mono x _ (kid x n h))

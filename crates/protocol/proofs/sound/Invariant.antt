@@ -19,7 +19,7 @@ use Rattle.tree.specs.Tree.Chain.{here, hop}
 use Rattle.protocol.specs.declared.Entry.{Entry}
 use Rattle.protocol.specs.declared.Message.{Message}
 use Rattle.protocol.specs.Net.{Net, nil, reply, upd}
-use Rattle.protocol.specs.Entries.{withMember, withChildren, joins, connected, ticked, waitsOn, stopsWaiting, asking, withChild, withoutChild, leave, stayOrLeave, adopting, underway}
+use Rattle.protocol.specs.Entries.{withMember, withChildren, joins, connected, ticked, waitsOn, stopsWaiting, asking, withChild, withoutChild, leave, stayOrLeave, adopting, underWay}
 use Rattle.protocol.specs.Calls.{treeOf}
 use Rattle.protocol.specs.Shaped.{All, Shaped}
 use Rattle.protocol.specs.Sound.{Sound}
@@ -94,8 +94,8 @@ module _ (N : Net) (H : Shaped N) (g : ℕ) where
     ceiling = S .ceiling;
   }
     where
-      none : (p q : ℕ) → has (N .entry g p .waiting) q ≡ false → underway (N .channel) g p q ≤ 0
-      none p q f = by-eq (underway (N .channel) g p q) 0
+      none : (p q : ℕ) → has (N .entry g p .waiting) q ≡ false → underWay (N .channel) g p q ≤ 0
+      none p q f = by-eq (underWay (N .channel) g p q) 0
           (λ e. omega arith) (λ n. clash (S .waits p q (omega arith)) f)
 
   leads-chain : (S : InvariantIn N g) {p : ℕ} → Leads (rootIs (N .root g)) (parents (N .entry g)) p → OnTree (treeOf N g) p
@@ -170,7 +170,7 @@ module _ {g r : ℕ} {E : ℕ → Entry} {C : ℕ → ℕ → List Message} (S :
       (same-root p _ (moves.quiet (S .core) p (waitsOn (E p) q) refl refl refl (moves.more-waits (S .core) p q)))
       (at-root p) (S .parentJoins p) (S .tentativeJoins p) (le-refl _) (λ _. S .ceiling p)
 
-  pub stops-waiting-kept : (p q : ℕ) → underway C g p q ≡ 0 → Invariant g r (upd E p (stopsWaiting (E p) q)) C
+  pub stops-waiting-kept : (p q : ℕ) → underWay C g p q ≡ 0 → Invariant g r (upd E p (stopsWaiting (E p) q)) C
   unfolding joins
   stops-waiting-kept p q z = entry-kept p (stopsWaiting (E p) q)
       (same-root p _ (moves.quiet (S .core) p (stopsWaiting (E p) q) refl refl refl (moves.fewer-waits (S .core) p q z)))
@@ -183,7 +183,7 @@ module _ {g r : ℕ} {E : ℕ → Entry} {C : ℕ → ℕ → List Message} (S :
 
   -- the reply m from s is taken by p, which waits on s no longer
   pub adopting-kept : (p s : ℕ) (m : Message) → E p .tentative ≡ s → s ≢ nil → Vouch (rootIs r s) (E s) p (m .clock) → E p .clock < m .clock
-      → underway C g p s ≡ 0 → Invariant g r (upd E p (adopting (stopsWaiting (E p) s) s m)) C
+      → underWay C g p s ≡ 0 → Invariant g r (upd E p (adopting (stopsWaiting (E p) s) s m)) C
   unfolding joins
   adopting-kept p s m t n v l z = entry-kept p e
       (no-root p e not-root (moves.adopting (S .core) p s e refl n v l refl (moves.fewer-waits (S .core) p s z)))
@@ -226,7 +226,7 @@ module _ {g r : ℕ} {E : ℕ → Entry} {C : ℕ → ℕ → List Message} (S :
     unfolding stayOrLeave
     stayed = by-bool (eqb p r || joins anew) (λ t. rw t (stays t)) (λ f. rw f (leaves f))
 
-  pub dropping-kept : (p c : ℕ) → E c .parent ≢ p → underway C g c p ≡ 0 → Invariant g r (upd E p (stayOrLeave r p (withoutChild (E p) c))) C
+  pub dropping-kept : (p c : ℕ) → E c .parent ≢ p → underWay C g c p ≡ 0 → Invariant g r (upd E p (stayOrLeave r p (withoutChild (E p) c))) C
   unfolding anew
   dropping-kept p c n z = stayed p (E p .member) (without (E p .children) c) (moves.listed-less (S .core) p c n z) (moves.promised-less (S .core) p c n z)
 

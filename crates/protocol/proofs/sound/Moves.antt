@@ -15,7 +15,7 @@ use Rattle.bits.proofs.Masks.{with-keeps, without-miss}
 use Rattle.protocol.specs.declared.Entry.{Entry}
 use Rattle.protocol.specs.declared.Message.{Message}
 use Rattle.protocol.specs.Net.{nil, reply, upd}
-use Rattle.protocol.specs.Entries.{underway}
+use Rattle.protocol.specs.Entries.{underWay}
 use Rattle.protocol.specs.Shaped.{All}
 use Rattle.protocol.proofs.laws.Maps.{upd-hit, upd-miss, All-map, All-map2}
 use Rattle.protocol.proofs.laws.Messages.{no-replies}
@@ -37,7 +37,7 @@ module _ {g : ℕ} {R : ℕ → Bool} {E : ℕ → Entry} {C : ℕ → ℕ → L
 
   -- ---- nothing that others see changes, but whom it waits on
   pub quiet : (p : ℕ) (e : Entry) → e .parent ≡ E p .parent → e .clock ≡ E p .clock → e .children ≡ E p .children
-      → ((q : ℕ) → underway C g p q ≤ bit (has (e .waiting) q)) → Core g (upd R p (R p)) (upd E p e) C
+      → ((q : ℕ) → underWay C g p q ≤ bit (has (e .waiting) q)) → Core g (upd R p (R p)) (upd E p e) C
   quiet p e i j k calls = steady S p e i
       (λ x n v. record {
         lists = ap (λ (y : ℕ). has y x) k ∙ v .lists;
@@ -46,10 +46,10 @@ module _ {g : ℕ} {R : ℕ → Bool} {E : ℕ → Entry} {C : ℕ → ℕ → L
       })
       (λ _. le-of-eq j) calls
 
-  pub more-waits : (p q x : ℕ) → underway C g p x ≤ bit (has (with (E p .waiting) q) x)
+  pub more-waits : (p q x : ℕ) → underWay C g p x ≤ bit (has (with (E p .waiting) q) x)
   more-waits p q x = le-trans (S .calls p x) (with-more _ q x)
 
-  pub fewer-waits : (p q : ℕ) → underway C g p q ≡ 0 → (x : ℕ) → underway C g p x ≤ bit (has (without (E p .waiting) q) x)
+  pub fewer-waits : (p q : ℕ) → underWay C g p q ≡ 0 → (x : ℕ) → underWay C g p x ≤ bit (has (without (E p .waiting) q) x)
   fewer-waits p q z x = by-eq x q (λ e. rw e (rw z (omega arith))) (λ n. rw (without-miss (E p .waiting) q x n) (S .calls p x))
 
   -- ---- a station without a parent has a greater clock
@@ -76,7 +76,7 @@ module _ {g : ℕ} {R : ℕ → Bool} {E : ℕ → Entry} {C : ℕ → ℕ → L
 
   -- ---- the reply is taken: loops are shut out by the strictly greater clock
   pub adopting : (p s : ℕ) (e : Entry) → e .parent ≡ s → s ≢ nil → Vouch (R s) (E s) p (e .clock) → E p .clock < e .clock
-      → e .children ≡ E p .children → ((q : ℕ) → underway C g p q ≤ bit (has (e .waiting) q)) → Core g (upd R p false) (upd E p e) C
+      → e .children ≡ E p .children → ((q : ℕ) → underWay C g p q ≤ bit (has (e .waiting) q)) → Core g (upd R p false) (upd E p e) C
   adopting p s e i n v l k calls = put S p false e (record {
     rootParent = λ t. absurd (false≢true t);
     calls = calls;
@@ -146,12 +146,12 @@ module _ {g : ℕ} {R : ℕ → Bool} {E : ℕ → Entry} {C : ℕ → ℕ → L
   pub promised : (p x : ℕ) → All (λ n. n .kind ≡ reply → n .group ≡ g → n .connected ≡ 1 → has (E p .children) x ≡ true) (C p x)
   promised p x = All-map (λ n u a b c. (u a b c) .lists) (S .words p x)
 
-  module _ (p c : ℕ) (n : E c .parent ≢ p) (z : underway C g c p ≡ 0) where
+  module _ (p c : ℕ) (n : E c .parent ≢ p) (z : underWay C g c p ≡ 0) where
     pub listed-less : (x : ℕ) → E x .parent ≢ nil → E x .parent ≡ p → has (without (E p .children) c) x ≡ true
     listed-less x a b = without-miss (E p .children) c x (λ j. n (ap (λ (y : ℕ). E y .parent) (sym j) ∙ b)) ∙ listed p x a b
 
     pub promised-less : (x : ℕ) → All (λ n. n .kind ≡ reply → n .group ≡ g → n .connected ≡ 1 → has (without (E p .children) c) x ≡ true) (C p x)
-    unfolding underway
+    unfolding underWay
     promised-less x = by-eq x c
         (λ i. subst (λ (y : ℕ). All (λ m. m .kind ≡ reply → m .group ≡ g → m .connected ≡ 1 → has (without (E p .children) c) y ≡ true) (C p y)) (sym i)
         (no-replies (C p c) (omega arith)))

@@ -10,20 +10,20 @@ use Rattle.bits.specs.Masks.{has}
 use Rattle.protocol.specs.declared.Entry.{Entry}
 use Rattle.protocol.specs.declared.Message.{Message}
 use Rattle.protocol.specs.Net.{request, reply}
-use Rattle.protocol.specs.Entries.{isOf, countOf, underway}
+use Rattle.protocol.specs.Entries.{isOf, countOf, underWay}
 use Rattle.protocol.specs.Shaped.{All}
 use Rattle.protocol.proofs.laws.Maps.{upd2-all, All-snoc, All-remove}
 use Rattle.protocol.proofs.laws.Messages.{bit-le, isOf-kind, isOf-group, count-snoc, taken, sent, taken-le, sent-same}
 use Rattle.protocol.proofs.sound.Core.{Word, Core}
 
 module _ {g : ℕ} {R : ℕ → Bool} {E : ℕ → Entry} {C : ℕ → ℕ → List Message} (S : Core g R E C) where
-  rechannel : (D : ℕ → ℕ → List Message) → ((p q : ℕ) → underway D g p q ≤ bit (has (E p .waiting) q)) → ((q p : ℕ) → All (Word g (R q) (E q) p) (D q p))
+  rechannel : (D : ℕ → ℕ → List Message) → ((p q : ℕ) → underWay D g p q ≤ bit (has (E p .waiting) q)) → ((q p : ℕ) → All (Word g (R q) (E q) p) (D q p))
       → Core g R E D
   rechannel D calls words = record { rootParent = S .rootParent; calls = calls; agreed = S .agreed; words = words; reaches = S .reaches }
 
   module _ (s d : ℕ) where
     pub taking : (i : ℕ) → Core g R E (taken C s d i)
-    unfolding underway
+    unfolding underWay
     taking i = rechannel (taken C s d i)
         (λ p q. omega (arith, S .calls p q, taken-le C s d request g i p q, taken-le C s d reply g i q p))
         (upd2-all (λ q p (l : List Message). All (Word g (R q) (E q) p) l) (All-remove i (S .words s d)) (λ q p _. S .words q p))
@@ -33,14 +33,14 @@ module _ {g : ℕ} {R : ℕ → Bool} {E : ℕ → Entry} {C : ℕ → ℕ → L
 
     -- a message of another group
     pub sending-other : (m : Message) → m .group ≢ g → Core g R E (sent C s d m)
-    unfolding underway
+    unfolding underWay
     sending-other m n = rechannel (sent C s d m)
         (λ p q. omega (arith, S .calls p q, sent-same C s d request g m (isOf-group request g m n) p q, sent-same C s d reply g m (isOf-group reply g m n) q p))
         (sent-words m (λ _ i. absurd (n i)))
 
     -- a request goes out where the station waits and nothing is under way
-    pub sending-request : (m : Message) → m .kind ≡ request → has (E s .waiting) d ≡ true → underway C g s d ≡ 0 → Core g R E (sent C s d m)
-    unfolding underway
+    pub sending-request : (m : Message) → m .kind ≡ request → has (E s .waiting) d ≡ true → underWay C g s d ≡ 0 → Core g R E (sent C s d m)
+    unfolding underWay
     sending-request m k w z = rechannel (sent C s d m)
         (λ p q. omega (arith, requests p q, sent-same C s d reply g m (isOf-kind reply g m (λ i. omega arith)) q p))
         (sent-words m (λ i. absurd (omega arith)))
@@ -51,8 +51,8 @@ module _ {g : ℕ} {R : ℕ → Bool} {E : ℕ → Entry} {C : ℕ → ℕ → L
             (λ p q _. S .calls p q)
 
     -- a reply goes out where the receiver waits and nothing is under way
-    pub sending-reply : (m : Message) → m .kind ≡ reply → has (E d .waiting) s ≡ true → underway C g d s ≡ 0 → Word g (R s) (E s) d m → Core g R E (sent C s d m)
-    unfolding underway
+    pub sending-reply : (m : Message) → m .kind ≡ reply → has (E d .waiting) s ≡ true → underWay C g d s ≡ 0 → Word g (R s) (E s) d m → Core g R E (sent C s d m)
+    unfolding underWay
     sending-reply m k w z v = rechannel (sent C s d m)
         (λ p q. omega (arith, replies q p, sent-same C s d request g m (isOf-kind request g m (λ i. omega arith)) p q))
         (sent-words m v)

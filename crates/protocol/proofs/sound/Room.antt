@@ -15,7 +15,7 @@ use Rattle.bits.proofs.Cases.{by-bool, by-eq, and-l, and-r, or-l, or-r}
 use Rattle.bits.proofs.Sums.{over-strict, over-const}
 use Rattle.protocol.specs.declared.Message.{Message}
 use Rattle.protocol.specs.Net.{Net, capacity, request, reply, group?}
-use Rattle.protocol.specs.Entries.{isOf, countOf, underway}
+use Rattle.protocol.specs.Entries.{isOf, countOf, underWay}
 use Rattle.protocol.specs.Rules.{Rule, oldest, room?, tick, ask, refresh, deliver, lose, giveUp, dropChild, member, route, rules}
 use Rattle.protocol.specs.Steps.{verdict, rule, action?, outcome}
 use Rattle.protocol.specs.Apart.{only, groupIn}
@@ -78,7 +78,7 @@ two-kinds g {n} (both {x = m} {l} k a) = by-eq (m .group) g
 
 module _ (N : Net) (H : Shaped N) (S : (g : ℕ) → InvariantIn N g) where
   two : (s d g : ℕ) → ofGroup groupIn (N .channel s d) g ≤ 2
-  unfolding underway
+  unfolding underWay
   two s d g = omega (
     arith,
     two-kinds g (H .channels s d .each),
@@ -90,7 +90,7 @@ module _ (N : Net) (H : Shaped N) (S : (g : ℕ) → InvariantIn N g) where
 
   -- no request of s, or no reply to d, is in the channel: there is room
   room : (g s d : ℕ) → g < N .groups → (countOf request g (N .channel s d) ≡ 0) ⊎ (countOf reply g (N .channel s d) ≡ 0) → room? N s d ≡ true
-  unfolding room? underway
+  unfolding room? underWay
   room g s d h z =
       let each = H .channels s d .each in
       let one : ofGroup groupIn (N .channel s d) g < 2 = ⊎-elim
@@ -101,7 +101,7 @@ module _ (N : Net) (H : Shaped N) (S : (g : ℕ) → InvariantIn N g) where
 
   -- a station that does not wait on q has no request to it under way
   unasked : (g p q : ℕ) → group? N g ≡ true → not (has (N .entry g p .waiting) q) ≡ true → room? N p q ≡ true
-  unfolding group? underway
+  unfolding group? underWay
   unasked g p q o t = room g p q (ltb-true _ _ o) (inl (omega (arith, idle (S g) p q (not-true _ t))))
 
   ask-room : (g p c : ℕ) → Roomy (ask N g p c)
@@ -113,7 +113,7 @@ module _ (N : Net) (H : Shaped N) (S : (g : ℕ) → InvariantIn N g) where
   refresh-room g p c o t = unasked g p (N .entry g p .parent) (search (and-l, and-r)) (search (and-l, and-r))
 
   deliver-room : (s d c : ℕ) → Roomy (deliver N s d c)
-  unfolding deliver underway
+  unfolding deliver underWay
   deliver-room s d c o t =
       let m : Message = oldest (N .channel) s d in
       let h : 0 < length (N .channel s d) = ltb-true 0 (length (N .channel s d)) t in

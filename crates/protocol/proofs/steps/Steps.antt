@@ -65,11 +65,11 @@ module _ (N : Net) where
   unfolding deliver answered heard send takeAt setEntry setChannel
   deliver-plan s d c = by-bool (eqb (oldest (N .channel) s d .kind) request) (λ i. rw i) (λ i. rw i)
 
-  all-same : (a b c : ℕ) → All (Owes (λ M. planOf M ≡ planOf N)) (rules N a b c)
+  same : (a b c : ℕ) → All (Owes (λ M. planOf M ≡ planOf N)) (rules N a b c)
   unfolding rules tick ask refresh lose giveUp dropChild member route send takeAt setEntry setChannel setRoute
-  all-same a b c =
+  same a b c =
       both (λ _. refl) (both (λ _. refl) (both (λ _. refl)
       (both (λ _. deliver-plan a b c) (both (λ _. refl) (both (λ _. refl) (both (λ _. refl) (both (λ _. refl) (both (λ _. refl) none))))))))
 
   pub step-plan : (k a b c : ℕ) → planOf (step N k a b c) ≡ planOf N
-  step-plan k a b c = step-keeps (λ M. planOf M ≡ planOf N) refl k a b c (all-same a b c)
+  step-plan k a b c = step-keeps (λ M. planOf M ≡ planOf N) refl k a b c (same a b c)

@@ -11,10 +11,10 @@ use Rattle.route.proofs.route.Tie as tie
 -- the operands are in range
 operands : (x : tie.Else1) → let a = x .before .before .before .before .args in rule.route (view (a .net .now)) (a .p) (a .d) (a .q) .operands ≡ true
 unfolding rule.route
-operands x = sym (x .before .of-path .ensures .0) ∙ not-false _ (x .if1 .left)
+operands x = sym (x .before .of-route .ensures .0) ∙ not-false _ (x .if1 .left)
 
-of-path-requires : tie.Need-of-path-requires
-of-path-requires c κs = search needs
+of-route-requires : tie.Need-of-route-requires
+of-route-requires c κs = search needs
 
 refused-requires : tie.Need-refused-requires
 refused-requires c κs = search needs
@@ -24,10 +24,10 @@ same-length c = search needs
 
 returns : tie.Need-returns
 unfolding rule.route
-returns c = let x = c .before in ends-3 _ _ (c .refused .ensures) (sym (x .before .of-path .ensures .0) ∙ not-true _ (x .if1 .taken))
+returns c = let x = c .before in ends-3 _ _ (c .refused .ensures) (sym (x .before .of-route .ensures .0) ∙ not-true _ (x .if1 .taken))
 
 set-route-requires : tie.Need-set-route-requires
-set-route-requires c κs = let x = c .before in (x .before .before .before .before .pre, x .before .of-path .ensures .1 (not-false _ (x .if1 .left)))
+set-route-requires c κs = let x = c .before in (x .before .before .before .before .pre, x .before .of-route .ensures .1 (not-false _ (x .if1 .left)))
 
 accepted-requires : tie.Need-accepted-requires
 accepted-requires c κs = search needs
@@ -44,7 +44,7 @@ pub route-spec : {M : Type 1} → statement M
 route-spec =
     tie.close
     (tie.spec
-    of-path-requires
+    of-route-requires
     refused-requires
     same-length
     returns

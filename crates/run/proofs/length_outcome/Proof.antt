@@ -1,6 +1,7 @@
 use mathlib.Core.Path.{refl}
 use borrow.Author.Tests.{eq-eqb, ne-eqb, le-leb, lt-leb}
-use Rattle.protocol.specs.Runs.{longestScript, lengthOutcome}
+use Rattle.protocol.specs.Net.{longestScript}
+use Rattle.protocol.specs.Runs.{lengthOutcome}
 use Rattle.run.proofs.length_outcome.Statement.{statement}
 use Rattle.run.proofs.length_outcome.Tie as tie
 

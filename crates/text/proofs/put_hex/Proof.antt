@@ -2,7 +2,8 @@ use native.Mathlib.Omega.{arith}
 use mathlib.Core.Path.{_≡_}
 use Prim.Native.Nat.{_≤_, _-_, _*_}
 use lib.ListN.{length, getD}
-use Rattle.text.specs.Text.{row, each, hexByte, hex, WroteWithin}
+use Rattle.text.specs.Text.{row, each, hexByte, hex}
+use Rattle.text.specs.inner.Within.{WroteWithin}
 use Rattle.text.proofs.Puts.{within-none, row-more}
 use Rattle.text.proofs.put_hex.Statement.{statement}
 use Rattle.text.proofs.put_hex.Tie as tie

@@ -1,6 +1,7 @@
 use Prim.Native.Nat.{_≤_, _-_, _*_}
 use native.Mathlib.Omega.{arith}
-use Rattle.text.specs.Text.{row, maskItem, WroteWithin}
+use Rattle.text.specs.Text.{row, maskItem}
+use Rattle.text.specs.inner.Within.{WroteWithin}
 use Rattle.text.proofs.Puts.{within-none, row-more, row-all, dash-after}
 use Rattle.text.proofs.put_mask_or_dash.Statement.{statement}
 use Rattle.text.proofs.put_mask_or_dash.Tie as tie

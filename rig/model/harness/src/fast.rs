@@ -1,5 +1,6 @@
-//! The test for well shaped on the bytes themselves, for measuring speed: flags are combined by `&`, there is no
-//! early exit, and every place is looked at, so that the time does not hang on what the net holds.
+//! What the library's speed is measured against, on the bytes themselves: the test for well shaped, and two actions
+//! after it, `refresh` and `deliver`. In the test, flags are combined by `&`, there is no early exit, and every place
+//! is looked at, so that the time does not hang on what the net holds.
 
 use rules::layout::*;
 
@@ -47,9 +48,9 @@ fn groups(net: &NetBytes) -> bool {
         let (length, root) = (net[group_at(k)], net[root_at(k)]);
         // the bits of the padding: all of them for a name of no bytes, none for one of 16
         let padding = u128::MAX.checked_shr(8 * u32::from(length)).unwrap_or(0);
-        let sound = (length.wrapping_sub(1) < 16) & (name(net, k) & padding == 0) & (root < stations);
+        let shaped = (length.wrapping_sub(1) < 16) & (name(net, k) & padding == 0) & (root < stations);
         let empty = (length == 0) & (name(net, k) == 0) & (root == 0);
-        ok &= (used & sound) | (!used & empty);
+        ok &= (used & shaped) | (!used & empty);
         for j in 0..k {
             // an unused group has length 0, so it is like no group in use
             ok &= !used | (net[group_at(j)] != length) | (name(net, j) != name(net, k));
@@ -94,8 +95,8 @@ fn routes(net: &NetBytes, masks: &Masks) -> bool {
         let row = &net[route_at(p, 0)..route_at(p, 0) + MOST_STATIONS];
         for (d, &next) in row.iter().enumerate() {
             let used = (p < stations) & (d < stations);
-            let sound = (next == NIL) | ((p != d) & in_mask(masks[p], next));
-            ok &= (used & sound) | (!used & (next == 0));
+            let shaped = (next == NIL) | ((p != d) & in_mask(masks[p], next));
+            ok &= (used & shaped) | (!used & (next == 0));
         }
     }
     ok
@@ -110,13 +111,13 @@ fn entries(net: &NetBytes, masks: &Masks) -> bool {
             let at = entry_at(k, p);
             let entry = &net[at..at + ENTRY_SIZE];
             let used = (k < groups) & (p < stations);
-            ok &= (used & entry_is_sound(entry, mask, p == root)) | (!used & is_zero(entry));
+            ok &= (used & entry_shaped(entry, mask, p == root)) | (!used & is_zero(entry));
         }
     }
     ok
 }
 
-fn entry_is_sound(entry: &[u8], mask: u16, is_root: bool) -> bool {
+fn entry_shaped(entry: &[u8], mask: u16, is_root: bool) -> bool {
     let nil_or_neighbour = |byte: u8| (byte == NIL) | (!is_root & in_mask(mask, byte));
     let children = u16::from_be_bytes([entry[8], entry[9]]);
     let waiting = u16::from_be_bytes([entry[10], entry[11]]);
@@ -146,7 +147,7 @@ fn channels(net: &NetBytes, masks: &Masks) -> bool {
 /// One word for each of a channel's 8 messages.
 type Lanes = [u64; CHANNEL_HOLDS];
 
-/// Sets a bit of a lane if its place does not hold a sound message, where it is in use, or else zeros.
+/// Sets a bit of a lane if its place does not hold a well-shaped message, where it is in use, or else zeros.
 #[inline(always)]
 fn messages(channel: &[u8], groups: u64, wrong: &mut Lanes) {
     let count = u64::from(channel[0]);
@@ -162,7 +163,7 @@ fn messages(channel: &[u8], groups: u64, wrong: &mut Lanes) {
     }
 }
 
-/// Not zero if the message, its kind in the lowest byte, is not sound.
+/// Not zero if the message, its kind in the lowest byte, is not well shaped.
 #[inline(always)]
 fn message_wrong(message: u64, groups: u64) -> u64 {
     let (kind, group, values) = (message & 255, message >> 8 & 255, message >> 16);

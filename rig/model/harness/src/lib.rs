@@ -1,5 +1,5 @@
 //! What holds the library and the bench program against the model (`rules`): random nets, plans and steps, damage,
-//! the driver, and a faster test for well shaped to measure the library by.
+//! and the driver; and what to measure the library by: a faster test for well shaped, and two actions.
 
 pub mod damage;
 pub mod fast;

@@ -1,6 +1,6 @@
 use mathlib.Core.Path.{ap₂}
 use Prim.Native.Nat.{ℕ, _+_}
-use Rattle.protocol.specs.Entries.{underway}
+use Rattle.protocol.specs.Entries.{underWay}
 use borrow.Author.Needs.{needs}
 use Rattle.access.proofs.read.under_way.Statement.{statement}
 use Rattle.access.proofs.read.under_way.Tie as tie
@@ -15,7 +15,7 @@ add-result : tie.Need-add-result
 add-result c = search needs
 
 returns : tie.Need-returns
-unfolding underway
+unfolding underWay
 returns c = ap₂ (λ (x y : ℕ). x + y) (c .before .count-of .ensures .0) (c .count-of2 .ensures .0)
 
 pub under-way-spec : {M : Type 1} → statement M

@@ -2,15 +2,12 @@ use borrow.Author.Needs.{needs}
 use Rattle.layout.proofs.front.name_length.Statement.{statement}
 use Rattle.layout.proofs.front.name_length.Tie as tie
 
--- src/front.rt:31:7
 group-at-requires : tie.Need-group-at-requires
 group-at-requires c κs = search needs
 
--- src/front.rt:31:5
 shared-slice-read-result : tie.Need-shared-slice-read-result
 shared-slice-read-result c = search needs
 
--- src/front.rt:27:1
 returns : tie.Need-returns
 returns c = cc
 

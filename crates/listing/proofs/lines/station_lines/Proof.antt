@@ -1,7 +1,8 @@
 use Prim.Native.Nat.{_≤_, _-_, _*_}
 use native.Mathlib.Omega.{arith}
 use Rattle.net.specs.View.{view}
-use Rattle.text.specs.Text.{row, each, WroteWithin}
+use Rattle.text.specs.Text.{row, each}
+use Rattle.text.specs.inner.Within.{WroteWithin}
 use Rattle.text.proofs.Puts.{within-none, row-more, row-all}
 use Rattle.listing.specs.Lines.{stationLine}
 use Rattle.listing.proofs.lines.station_lines.Statement.{statement}

@@ -29,17 +29,17 @@ loop-less c = omega arith
 loop-again : tie.Need-loop-again Inv-loop μ-loop
 loop-again c = (omega arith, all-more _ (c .before .before .loop .inv .1) (c .station-cabled .ensures))
 
-mul-all-zero : tie.Need-mul-all-zero Inv-loop μ-loop
-mul-all-zero c = omega arith
+mul-zeros : tie.Need-mul-zeros Inv-loop μ-loop
+mul-zeros c = omega arith
 
-add-all-zero : tie.Need-add-all-zero Inv-loop μ-loop
-add-all-zero c = omega arith
+add-zeros : tie.Need-add-zeros Inv-loop μ-loop
+add-zeros c = omega arith
 
-all-zero-requires : tie.Need-all-zero-requires Inv-loop μ-loop
-all-zero-requires c κs = omega arith
+zeros-requires : tie.Need-zeros-requires Inv-loop μ-loop
+zeros-requires c κs = omega arith
 
 returns : tie.Need-returns Inv-loop μ-loop
-returns c = table-done _ _ _ _ _ _ (c .before .before .loop .inv .0) (c .before .loop-test .left) (c .before .before .loop .inv .1) (c .all-zero .ensures)
+returns c = table-done _ _ _ _ _ _ (c .before .before .loop .inv .0) (c .before .loop-test .left) (c .before .before .loop .inv .1) (c .zeros .ensures)
 
 pub cables-shaped-spec : {M : Type 1} → statement M
 cables-shaped-spec =
@@ -52,7 +52,7 @@ cables-shaped-spec =
     add-p
     loop-less
     loop-again
-    mul-all-zero
-    add-all-zero
-    all-zero-requires
+    mul-zeros
+    add-zeros
+    zeros-requires
     returns)

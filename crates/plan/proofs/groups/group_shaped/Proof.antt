@@ -26,17 +26,17 @@ returns c = simp (← long (c .before), lt-leb _ _ (c .if1 .taken))
 group-at-requires : tie.Need-group-at-requires
 group-at-requires c κs = search needs
 
-add-all-zero : tie.Need-add-all-zero
-add-all-zero c = search needs
+add-zeros : tie.Need-add-zeros
+add-zeros c = search needs
 
-add-all-zero-2 : tie.Need-add-all-zero-2
-add-all-zero-2 c = search needs
+add-zeros-2 : tie.Need-add-zeros-2
+add-zeros-2 c = search needs
 
-add-all-zero-3 : tie.Need-add-all-zero-3
-add-all-zero-3 c = search needs
+add-zeros-3 : tie.Need-add-zeros-3
+add-zeros-3 c = search needs
 
-all-zero-requires : tie.Need-all-zero-requires
-all-zero-requires c κs = search needs
+zeros-requires : tie.Need-zeros-requires
+zeros-requires c κs = search needs
 
 root-requires : tie.Need-root-requires
 root-requires c κs = search needs
@@ -51,7 +51,7 @@ returns-2 c = let z = c .before .before in
     let a = x .before .before .before .args in
     simp (← long x, le-leb _ _ (z .before .before .if1 .left))
     (ap₂ (λ (padding below : Bool). leb 1 (x .wide .result) && padding && below)
-    (z .all-zero .ensures ∙ ap (λ (at : ℕ). zeros (a .s .now) (at + 1 + x .wide .result) (at + 17)) (z .before .group-at .ensures .0))
+    (z .zeros .ensures ∙ ap (λ (at : ℕ). zeros (a .s .now) (at + 1 + x .wide .result) (at + 17)) (z .before .group-at .ensures .0))
     (ap (λ (r : ℕ). ltb r (a .n)) (c .wide2 .ensures .0 ∙ c .before .root .ensures)))
 
 pub group-shaped-spec : {M : Type 1} → statement M
@@ -62,10 +62,10 @@ group-shaped-spec =
     wide-requires
     returns
     group-at-requires
-    add-all-zero
-    add-all-zero-2
-    add-all-zero-3
-    all-zero-requires
+    add-zeros
+    add-zeros-2
+    add-zeros-3
+    zeros-requires
     root-requires
     wide-requires-2
     returns-2)

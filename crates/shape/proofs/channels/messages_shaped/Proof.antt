@@ -40,25 +40,25 @@ loop-less c = omega arith
 loop-again : tie.Need-loop-again Inv-loop μ-loop
 loop-again c = (omega arith, all-more _ (c .before .before .loop .inv .1) (c .message-shaped .ensures))
 
-add-all-zero : tie.Need-add-all-zero Inv-loop μ-loop
-add-all-zero c = omega arith
+add-zeros : tie.Need-add-zeros Inv-loop μ-loop
+add-zeros c = omega arith
 
-mul-all-zero : tie.Need-mul-all-zero Inv-loop μ-loop
-mul-all-zero c = omega arith
+mul-zeros : tie.Need-mul-zeros Inv-loop μ-loop
+mul-zeros c = omega arith
 
-add-all-zero-2 : tie.Need-add-all-zero-2 Inv-loop μ-loop
-add-all-zero-2 c = omega arith
+add-zeros-2 : tie.Need-add-zeros-2 Inv-loop μ-loop
+add-zeros-2 c = omega arith
 
-add-all-zero-3 : tie.Need-add-all-zero-3 Inv-loop μ-loop
-add-all-zero-3 c = omega arith
+add-zeros-3 : tie.Need-add-zeros-3 Inv-loop μ-loop
+add-zeros-3 c = omega arith
 
-all-zero-requires : tie.Need-all-zero-requires Inv-loop μ-loop
-all-zero-requires c κs = omega arith
+zeros-requires : tie.Need-zeros-requires Inv-loop μ-loop
+zeros-requires c κs = omega arith
 
 returns : tie.Need-returns Inv-loop μ-loop
 returns c = let x = c .before in
     table-done _ _ _ _ _ _ (x .before .loop .inv .0) (x .loop-test .left) (x .before .loop .inv .1)
-    (c .all-zero .ensures ∙ ap (zeros _ _) (omega arith))
+    (c .zeros .ensures ∙ ap (zeros _ _) (omega arith))
 
 pub messages-shaped-spec : {M : Type 1} → statement M
 messages-shaped-spec =
@@ -74,9 +74,9 @@ messages-shaped-spec =
     add-i
     loop-less
     loop-again
-    add-all-zero
-    mul-all-zero
-    add-all-zero-2
-    add-all-zero-3
-    all-zero-requires
+    add-zeros
+    mul-zeros
+    add-zeros-2
+    add-zeros-3
+    zeros-requires
     returns)

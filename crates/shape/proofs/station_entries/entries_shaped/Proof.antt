@@ -4,12 +4,12 @@ use Prim.Native.Nat.{_≤_, _-_}
 use Rattle.bits.specs.Below.{allBelow}
 use Rattle.bits.proofs.Below.{all-none, all-more}
 use Rattle.layout.proofs.Bounded.{table-done}
-use Rattle.shape.specs.Shape.{entryRow, entriesShaped}
+use Rattle.shape.specs.Shape.{entryRowShaped, entriesShaped}
 use Rattle.shape.proofs.station_entries.entries_shaped.Statement.{statement}
 use Rattle.shape.proofs.station_entries.entries_shaped.Tie as tie
 
 abbrev Inv-loop : tie.InvT-loop
-Inv-loop s n g ok₀ k₀ ok k = (k ≤ g) × (ok ≡ allBelow k (entryRow s n))
+Inv-loop s n g ok₀ k₀ ok k = (k ≤ g) × (ok ≡ allBelow k (entryRowShaped s n))
 
 abbrev μ-loop : tie.MeasureT-loop
 μ-loop s n g ok₀ k₀ ok k = g - k
@@ -17,8 +17,8 @@ abbrev μ-loop : tie.MeasureT-loop
 loop-holds : tie.Need-loop-holds Inv-loop μ-loop
 loop-holds c = (omega arith, all-none _)
 
-entry-row-requires : tie.Need-entry-row-requires Inv-loop μ-loop
-entry-row-requires c κs = omega arith
+entry-row-shaped-requires : tie.Need-entry-row-shaped-requires Inv-loop μ-loop
+entry-row-shaped-requires c κs = omega arith
 
 add-k : tie.Need-add-k Inv-loop μ-loop
 add-k c = omega arith
@@ -27,20 +27,20 @@ loop-less : tie.Need-loop-less Inv-loop μ-loop
 loop-less c = omega arith
 
 loop-again : tie.Need-loop-again Inv-loop μ-loop
-loop-again c = (omega arith, all-more _ (c .before .before .loop .inv .1) (c .entry-row .ensures))
+loop-again c = (omega arith, all-more _ (c .before .before .loop .inv .1) (c .entry-row-shaped .ensures))
 
-mul-all-zero : tie.Need-mul-all-zero Inv-loop μ-loop
-mul-all-zero c = omega arith
+mul-zeros : tie.Need-mul-zeros Inv-loop μ-loop
+mul-zeros c = omega arith
 
-add-all-zero : tie.Need-add-all-zero Inv-loop μ-loop
-add-all-zero c = omega arith
+add-zeros : tie.Need-add-zeros Inv-loop μ-loop
+add-zeros c = omega arith
 
-all-zero-requires : tie.Need-all-zero-requires Inv-loop μ-loop
-all-zero-requires c κs = omega arith
+zeros-requires : tie.Need-zeros-requires Inv-loop μ-loop
+zeros-requires c κs = omega arith
 
 returns : tie.Need-returns Inv-loop μ-loop
 unfolding entriesShaped
-returns c = table-done _ _ _ _ _ _ (c .before .before .loop .inv .0) (c .before .loop-test .left) (c .before .before .loop .inv .1) (c .all-zero .ensures)
+returns c = table-done _ _ _ _ _ _ (c .before .before .loop .inv .0) (c .before .loop-test .left) (c .before .before .loop .inv .1) (c .zeros .ensures)
 
 pub entries-shaped-spec : {M : Type 1} → statement M
 entries-shaped-spec =
@@ -49,11 +49,11 @@ entries-shaped-spec =
     Inv-loop
     μ-loop
     loop-holds
-    entry-row-requires
+    entry-row-shaped-requires
     add-k
     loop-less
     loop-again
-    mul-all-zero
-    add-all-zero
-    all-zero-requires
+    mul-zeros
+    add-zeros
+    zeros-requires
     returns)

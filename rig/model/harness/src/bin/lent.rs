@@ -1,5 +1,5 @@
 //! Cases for runs and calls into lent records, and what must come of them: `lent SEED INPUT OUTPUT` writes two files, what
-//! tests/runs/lent.rattle reads and what it has to print. The form of a case is written down there.
+//! tests/lent.rattle reads and what it has to print. The form of a case is written down there.
 
 use harness::make;
 use harness::random::Random;

@@ -2,7 +2,7 @@
 ghost use mathlib.Core.Path.{_≡_};
 ghost use Prim.Native.Nat.{_+_, _≤_, _<_};
 ghost use Rattle.protocol.specs.Net.{mostGroups, mostStations};
-ghost use Rattle.layout.specs.Layout.{groupAt, maskAt, routeAt, stretchAt, entryAt, channelAt, channelSize, channelsAt, entriesAt, entrySize, groupSize, masksAt, netLength, routesAt, stretchSize};
+ghost use Rattle.layout.specs.Layout.{groupAt, maskAt, routeAt, entryRowAt, entryAt, channelAt, channelSize, channelsAt, entriesAt, entrySize, groupSize, maskSize, masksAt, netLength, routesAt, entryRowSize};
 
 pub const NET_LENGTH: usize = 15728;
 
@@ -10,28 +10,29 @@ pub const PLAN_LENGTH: usize = 112;
 
 pub const GROUPS_AT: usize = 8;
 
-pub const GROUP_SIZE: usize = 18;
+pub const NAME_SIZE: usize = 17;
 
-// in a group, behind its length and its name
-pub const ROOT_AT: usize = 17;
+pub const GROUP_SIZE: usize = 18;
 
 pub const MASKS_AT: usize = 80;
 
+pub const MASK_SIZE: usize = 2;
+
 pub const ROUTES_AT: usize = 112;
 
-pub const ROUTE_ROW: usize = 16;
+pub const ROUTE_ROW_SIZE: usize = 16;
 
 pub const ENTRIES_AT: usize = 368;
 
 pub const ENTRY_SIZE: usize = 12;
 
-pub const STRETCH_SIZE: usize = 192;
+pub const ENTRY_ROW_SIZE: usize = 192;
 
 pub const CHANNELS_AT: usize = 1136;
 
 pub const CHANNEL_SIZE: usize = 57;
 
-pub const CHANNEL_ROW: usize = 912;
+pub const CHANNEL_ROW_SIZE: usize = 912;
 
 pub const MESSAGE_SIZE: usize = 7;
 
@@ -44,35 +45,35 @@ pub fn group_at(g: usize) -> usize
 
 pub fn mask_at(p: usize) -> usize
     requires { ⌜ p < mostStations ⌝ }
-    ensures { λ r. ⌜ (r ≡ maskAt p) × (r + 2 ≤ routesAt) ⌝ }
+    ensures { λ r. ⌜ (r ≡ maskAt p) × (r + maskSize ≤ routesAt) ⌝ }
 {
-    MASKS_AT + 2 * p
+    MASKS_AT + MASK_SIZE * p
 }
 
 pub fn route_at(p: usize, d: usize) -> usize
     requires { ⌜ (p < mostStations) × (d < mostStations) ⌝ }
     ensures { λ r. ⌜ (r ≡ routeAt p d) × (r < entriesAt) ⌝ }
 {
-    ROUTES_AT + ROUTE_ROW * p + d
+    ROUTES_AT + ROUTE_ROW_SIZE * p + d
 }
 
-pub fn stretch_at(g: usize) -> usize
+pub fn entry_row_at(g: usize) -> usize
     requires { ⌜ g < mostGroups ⌝ }
-    ensures { λ r. ⌜ (r ≡ stretchAt g) × (r + stretchSize ≤ channelsAt) ⌝ }
+    ensures { λ r. ⌜ (r ≡ entryRowAt g) × (r + entryRowSize ≤ channelsAt) ⌝ }
 {
-    ENTRIES_AT + STRETCH_SIZE * g
+    ENTRIES_AT + ENTRY_ROW_SIZE * g
 }
 
 pub fn entry_at(g: usize, p: usize) -> usize
     requires { ⌜ (g < mostGroups) × (p < mostStations) ⌝ }
     ensures { λ r. ⌜ (r ≡ entryAt g p) × (r + entrySize ≤ channelsAt) ⌝ }
 {
-    ENTRIES_AT + STRETCH_SIZE * g + ENTRY_SIZE * p
+    ENTRIES_AT + ENTRY_ROW_SIZE * g + ENTRY_SIZE * p
 }
 
 pub fn channel_at(s: usize, d: usize) -> usize
     requires { ⌜ (s < mostStations) × (d < mostStations) ⌝ }
     ensures { λ r. ⌜ (r ≡ channelAt s d) × (r + channelSize ≤ netLength) ⌝ }
 {
-    CHANNELS_AT + CHANNEL_ROW * s + CHANNEL_SIZE * d
+    CHANNELS_AT + CHANNEL_ROW_SIZE * s + CHANNEL_SIZE * d
 }

@@ -7,8 +7,8 @@ use Rattle.bits.specs.Below.{allBelow}
 use Rattle.bits.proofs.Below.{all-none, all-more}
 use Rattle.layout.proofs.Bounded.{table-done}
 use Rattle.shape.specs.Shape.{routeShaped}
-use Rattle.shape.proofs.routes.route_row.Statement.{statement}
-use Rattle.shape.proofs.routes.route_row.Tie as tie
+use Rattle.shape.proofs.routes.route_row_shaped.Statement.{statement}
+use Rattle.shape.proofs.routes.route_row_shaped.Tie as tie
 
 abbrev Inv-loop : tie.InvT-loop
 Inv-loop s n p m ok₀ d₀ ok d = (d ≤ n) × (ok ≡ allBelow d (λ k. routeShaped (neighbours s p) p k s (routeAt p k)))
@@ -43,20 +43,20 @@ mul-row c = omega arith
 add-row : tie.Need-add-row Inv-loop μ-loop
 add-row c = omega arith
 
-add-all-zero : tie.Need-add-all-zero Inv-loop μ-loop
-add-all-zero c = omega arith
+add-zeros : tie.Need-add-zeros Inv-loop μ-loop
+add-zeros c = omega arith
 
-add-all-zero-2 : tie.Need-add-all-zero-2 Inv-loop μ-loop
-add-all-zero-2 c = omega arith
+add-zeros-2 : tie.Need-add-zeros-2 Inv-loop μ-loop
+add-zeros-2 c = omega arith
 
-all-zero-requires : tie.Need-all-zero-requires Inv-loop μ-loop
-all-zero-requires c κs = omega arith
+zeros-requires : tie.Need-zeros-requires Inv-loop μ-loop
+zeros-requires c κs = omega arith
 
 returns : tie.Need-returns Inv-loop μ-loop
-returns c = table-done _ _ _ _ _ _ (c .before .before .loop .inv .0) (c .before .loop-test .left) (c .before .before .loop .inv .1) (simp one-mul (c .all-zero .ensures))
+returns c = table-done _ _ _ _ _ _ (c .before .before .loop .inv .0) (c .before .loop-test .left) (c .before .before .loop .inv .1) (simp one-mul (c .zeros .ensures))
 
-pub route-row-spec : {M : Type 1} → statement M
-route-row-spec =
+pub route-row-shaped-spec : {M : Type 1} → statement M
+route-row-shaped-spec =
     tie.close
     (tie.spec
     Inv-loop
@@ -70,7 +70,7 @@ route-row-spec =
     loop-again
     mul-row
     add-row
-    add-all-zero
-    add-all-zero-2
-    all-zero-requires
+    add-zeros
+    add-zeros-2
+    zeros-requires
     returns)

@@ -5,6 +5,6 @@ use Prim.Native.Nat.{ℕ, _<_}
 use lib.ListN.{length}
 use Rattle.protocol.specs.Net.{Net, near?}
 
-pub record Oldest (N : Net) (s d : ℕ) : Type 0 where
+pub record MayDeliver (N : Net) (s d : ℕ) : Type 0 where
   pub between : near? N s d ≡ true
   pub some : 0 < length (N .channel s d)

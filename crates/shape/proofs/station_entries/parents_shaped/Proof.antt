@@ -5,10 +5,10 @@ use lib.Dec.{eqb}
 use Rattle.protocol.specs.Net.{nil}
 use Rattle.layout.specs.Layout.{byte}
 use Rattle.bits.specs.Below.{_implies_}
-use Rattle.shape.specs.Shape.{entryUpright}
+use Rattle.shape.specs.Shape.{parentsShaped}
 use borrow.Author.Needs.{needs}
-use Rattle.shape.proofs.station_entries.entry_upright.Statement.{statement}
-use Rattle.shape.proofs.station_entries.entry_upright.Tie as tie
+use Rattle.shape.proofs.station_entries.parents_shaped.Statement.{statement}
+use Rattle.shape.proofs.station_entries.parents_shaped.Tie as tie
 
 shared-slice-read-nil-or : tie.Need-shared-slice-read-nil-or
 shared-slice-read-nil-or c = search needs
@@ -35,15 +35,15 @@ shared-slice-read-result-2 : tie.Need-shared-slice-read-result-2
 shared-slice-read-result-2 c = search needs
 
 returns : tie.Need-returns
-unfolding entryUpright
+unfolding parentsShaped
 returns c = let x = c .before .before in
     let a = x .before .before .before .before .before .args in
     let l = a .s .now in
     ap₂ (λ (parent tentative : Bool). parent && tentative && (eqb (a .r) (a .p) implies (eqb (byte l (a .at)) nil && eqb (byte l (a .at + 1)) nil)))
     (x .before .before .nil-or .ensures) (x .nil-or2 .ensures)
 
-pub entry-upright-spec : {M : Type 1} → statement M
-entry-upright-spec =
+pub parents-shaped-spec : {M : Type 1} → statement M
+parents-shaped-spec =
     tie.close
     (tie.spec
     shared-slice-read-nil-or

@@ -5,10 +5,10 @@ use lib.Dec.{eqb, leb}
 use Rattle.bits.specs.Masks.{within}
 use Rattle.protocol.specs.Net.{mostStations}
 use Rattle.layout.specs.Layout.{byte}
-use Rattle.shape.specs.Shape.{entryAttached}
+use Rattle.shape.specs.Shape.{memberAndMasksShaped}
 use borrow.Author.Needs.{needs}
-use Rattle.shape.proofs.station_entries.entry_attached.Statement.{statement}
-use Rattle.shape.proofs.station_entries.entry_attached.Tie as tie
+use Rattle.shape.proofs.station_entries.member_and_masks_shaped.Statement.{statement}
+use Rattle.shape.proofs.station_entries.member_and_masks_shaped.Tie as tie
 
 add-result : tie.Need-add-result
 add-result c = search needs
@@ -41,15 +41,15 @@ within-requires-2 : tie.Need-within-requires-2
 within-requires-2 c κs = search needs
 
 returns : tie.Need-returns
-unfolding entryAttached
+unfolding memberAndMasksShaped
 returns c = let x = c .before .before in
     let a = x .before .before .before .before .before .args in
     ap₂ (λ (children waiting : Bool). leb (byte (a .s .now) (a .at + 2)) 1 && eqb (byte (a .s .now) (a .at + 3)) 0 && children && waiting)
     (x .within .ensures ∙ ap (λ (k : ℕ). within mostStations k (a .m)) (x .before .get16 .ensures))
     (c .within2 .ensures ∙ ap (λ (k : ℕ). within mostStations k (a .m)) (c .before .get162 .ensures))
 
-pub entry-attached-spec : {M : Type 1} → statement M
-entry-attached-spec =
+pub member-and-masks-shaped-spec : {M : Type 1} → statement M
+member-and-masks-shaped-spec =
     tie.close
     (tie.spec
     add-result

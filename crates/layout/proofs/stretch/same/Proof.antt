@@ -6,8 +6,8 @@ use Rattle.layout.specs.Layout.{byte}
 use Rattle.bits.specs.Below.{allBelow}
 use Rattle.layout.specs.Bounded.{same}
 use Rattle.bits.proofs.Below.{all-none, all-more, all-done}
-use Rattle.layout.proofs.stretch.all_same.Statement.{statement}
-use Rattle.layout.proofs.stretch.all_same.Tie as tie
+use Rattle.layout.proofs.stretch.same.Statement.{statement}
+use Rattle.layout.proofs.stretch.same.Tie as tie
 
 abbrev Inv-loop : tie.InvT-loop
 Inv-loop s a b n ok₀ i₀ ok i = (i ≤ n) × (ok ≡ allBelow i (λ k. eqb (byte s (a + k)) (byte s (b + k))))
@@ -43,8 +43,8 @@ returns : tie.Need-returns Inv-loop μ-loop
 unfolding same
 returns c = all-done _ (c .before .loop .inv .0) (c .loop-test .left) (c .before .loop .inv .1)
 
-pub all-same-spec : {M : Type 1} → statement M
-all-same-spec =
+pub same-spec : {M : Type 1} → statement M
+same-spec =
     tie.close
     (tie.spec
     Inv-loop

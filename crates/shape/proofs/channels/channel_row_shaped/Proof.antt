@@ -6,8 +6,8 @@ use Rattle.bits.specs.Below.{allBelow}
 use Rattle.bits.proofs.Below.{all-none, all-more}
 use Rattle.layout.proofs.Bounded.{table-done}
 use Rattle.shape.specs.Shape.{channelShaped}
-use Rattle.shape.proofs.channels.channels_from.Statement.{statement}
-use Rattle.shape.proofs.channels.channels_from.Tie as tie
+use Rattle.shape.proofs.channels.channel_row_shaped.Statement.{statement}
+use Rattle.shape.proofs.channels.channel_row_shaped.Tie as tie
 
 abbrev Inv-loop : tie.InvT-loop
 Inv-loop s n g p m ok₀ d₀ ok d = (d ≤ n) × (ok ≡ allBelow d (λ k. channelShaped (neighbours s p) g k s (channelAt p k)))
@@ -42,23 +42,23 @@ mul-row c = omega arith
 add-row : tie.Need-add-row Inv-loop μ-loop
 add-row c = omega arith
 
-mul-all-zero : tie.Need-mul-all-zero Inv-loop μ-loop
-mul-all-zero c = omega arith
+mul-zeros : tie.Need-mul-zeros Inv-loop μ-loop
+mul-zeros c = omega arith
 
-add-all-zero : tie.Need-add-all-zero Inv-loop μ-loop
-add-all-zero c = omega arith
+add-zeros : tie.Need-add-zeros Inv-loop μ-loop
+add-zeros c = omega arith
 
-add-all-zero-2 : tie.Need-add-all-zero-2 Inv-loop μ-loop
-add-all-zero-2 c = omega arith
+add-zeros-2 : tie.Need-add-zeros-2 Inv-loop μ-loop
+add-zeros-2 c = omega arith
 
-all-zero-requires : tie.Need-all-zero-requires Inv-loop μ-loop
-all-zero-requires c κs = omega arith
+zeros-requires : tie.Need-zeros-requires Inv-loop μ-loop
+zeros-requires c κs = omega arith
 
 returns : tie.Need-returns Inv-loop μ-loop
-returns c = table-done _ _ _ _ _ _ (c .before .before .loop .inv .0) (c .before .loop-test .left) (c .before .before .loop .inv .1) (c .all-zero .ensures)
+returns c = table-done _ _ _ _ _ _ (c .before .before .loop .inv .0) (c .before .loop-test .left) (c .before .before .loop .inv .1) (c .zeros .ensures)
 
-pub channels-from-spec : {M : Type 1} → statement M
-channels-from-spec =
+pub channel-row-shaped-spec : {M : Type 1} → statement M
+channel-row-shaped-spec =
     tie.close
     (tie.spec
     Inv-loop
@@ -72,8 +72,8 @@ channels-from-spec =
     loop-again
     mul-row
     add-row
-    mul-all-zero
-    add-all-zero
-    add-all-zero-2
-    all-zero-requires
+    mul-zeros
+    add-zeros
+    add-zeros-2
+    zeros-requires
     returns)

@@ -6,8 +6,8 @@ use Rattle.layout.specs.Layout.{byte}
 use Rattle.bits.specs.Below.{allBelow}
 use Rattle.layout.specs.Bounded.{zeros}
 use Rattle.bits.proofs.Below.{all-none, all-more, all-done}
-use Rattle.layout.proofs.stretch.all_zero.Statement.{statement}
-use Rattle.layout.proofs.stretch.all_zero.Tie as tie
+use Rattle.layout.proofs.stretch.zeros.Statement.{statement}
+use Rattle.layout.proofs.stretch.zeros.Tie as tie
 
 abbrev Inv-loop : tie.InvT-loop
 Inv-loop s a e n ok₀ i₀ ok i = (n ≡ e - a) × (i ≤ n) × (ok ≡ allBelow i (λ k. eqb (byte s (a + k)) 0))
@@ -40,8 +40,8 @@ returns : tie.Need-returns Inv-loop μ-loop
 unfolding zeros
 returns c = all-done _ (c .before .loop .inv .1) (c .loop-test .left) (c .before .loop .inv .2)
 
-pub all-zero-spec : {M : Type 1} → statement M
-all-zero-spec =
+pub zeros-spec : {M : Type 1} → statement M
+zeros-spec =
     tie.close
     (tie.spec
     Inv-loop

@@ -7,8 +7,8 @@ use Rattle.layout.specs.Bounded.{zeros}
 use Rattle.bits.proofs.Below.{all-none, all-more}
 use Rattle.layout.proofs.Bounded.{table-done}
 use Rattle.shape.specs.Shape.{entryShaped}
-use Rattle.shape.proofs.station_entries.entry_row.Statement.{statement}
-use Rattle.shape.proofs.station_entries.entry_row.Tie as tie
+use Rattle.shape.proofs.station_entries.entry_row_shaped.Statement.{statement}
+use Rattle.shape.proofs.station_entries.entry_row_shaped.Tie as tie
 
 abbrev Inv-loop : tie.InvT-loop
 Inv-loop s n g r ok₀ p₀ ok p = (p ≤ n) × (ok ≡ allBelow p (λ k. entryShaped (neighbours s k) (root s g) k s (entryAt g k)))
@@ -43,28 +43,28 @@ loop-less c = omega arith
 loop-again : tie.Need-loop-again Inv-loop μ-loop
 loop-again c = (omega arith, all-more _ (c .before .before .before .before .loop .inv .1) (cc))
 
-stretch-at-requires : tie.Need-stretch-at-requires Inv-loop μ-loop
-stretch-at-requires c κs = omega arith
+entry-row-at-requires : tie.Need-entry-row-at-requires Inv-loop μ-loop
+entry-row-at-requires c κs = omega arith
 
-mul-all-zero : tie.Need-mul-all-zero Inv-loop μ-loop
-mul-all-zero c = omega arith
+mul-zeros : tie.Need-mul-zeros Inv-loop μ-loop
+mul-zeros c = omega arith
 
-add-all-zero : tie.Need-add-all-zero Inv-loop μ-loop
-add-all-zero c = omega arith
+add-zeros : tie.Need-add-zeros Inv-loop μ-loop
+add-zeros c = omega arith
 
-add-all-zero-2 : tie.Need-add-all-zero-2 Inv-loop μ-loop
-add-all-zero-2 c = omega arith
+add-zeros-2 : tie.Need-add-zeros-2 Inv-loop μ-loop
+add-zeros-2 c = omega arith
 
-all-zero-requires : tie.Need-all-zero-requires Inv-loop μ-loop
-all-zero-requires c κs = omega arith
+zeros-requires : tie.Need-zeros-requires Inv-loop μ-loop
+zeros-requires c κs = omega arith
 
 returns : tie.Need-returns Inv-loop μ-loop
 returns c = let x = c .before .before in
     table-done _ _ _ _ _ _ (x .before .loop .inv .0) (x .loop-test .left) (x .before .loop .inv .1)
-    (c .all-zero .ensures ∙ ap₂ (zeros _) (omega arith) (omega arith))
+    (c .zeros .ensures ∙ ap₂ (zeros _) (omega arith) (omega arith))
 
-pub entry-row-spec : {M : Type 1} → statement M
-entry-row-spec =
+pub entry-row-shaped-spec : {M : Type 1} → statement M
+entry-row-shaped-spec =
     tie.close
     (tie.spec
     Inv-loop
@@ -78,9 +78,9 @@ entry-row-spec =
     add-p
     loop-less
     loop-again
-    stretch-at-requires
-    mul-all-zero
-    add-all-zero
-    add-all-zero-2
-    all-zero-requires
+    entry-row-at-requires
+    mul-zeros
+    add-zeros
+    add-zeros-2
+    zeros-requires
     returns)
