@@ -1,8 +1,12 @@
 // The reach list is "a lent list of exactly 16 entries, one record each".
+use protocol::MOST_STATIONS;
+use protocol::NIL;
 use tree::Reach;
+use visit::LIST_LENGTH;
 ghost use mathlib.Core.Path.{_≡_};
 ghost use Prim.Native.Nat.{_<_};
 ghost use lib.ListN.{length};
+ghost use Rattle.protocol.specs.Net.{mostStations};
 ghost use Rattle.lent.specs.Lists.{calledRecord, calledOn, recordsAfterCall};
 ghost use Rattle.lent.specs.inner.Filling.{fillingOf, reachAt, FillsList};
 
@@ -17,11 +21,11 @@ pub struct Called {
 pub struct Filling {
     pub called: Called,
     pub fill: usize,
-    pub bytes: [u8; 48],
+    pub bytes: [u8; LIST_LENGTH],
 }
 
 // An answer and the bytes beside it: 16 entries are to be filled, and none on a refusal.
-fn filling_of(answer: call::Answer, bytes: [u8; 48]) -> Filling
+fn filling_of(answer: call::Answer, bytes: [u8; LIST_LENGTH]) -> Filling
     ensures { λ r. ⌜ r ≡ fillingOf answer bytes ⌝ }
 {
     match answer {
@@ -31,7 +35,7 @@ fn filling_of(answer: call::Answer, bytes: [u8; 48]) -> Filling
                 reached: r,
                 copies: k,
             },
-            fill: 16,
+            fill: MOST_STATIONS,
             bytes,
         },
         call::Answer::Refused(o) => Filling {
@@ -50,8 +54,8 @@ fn filling_of(answer: call::Answer, bytes: [u8; 48]) -> Filling
 fn call_bytes(net: &[u8], g: u8, c: u8, n: usize) -> Filling
     ensures { λ r. ⌜ FillsList (now (net .entry)) g c n r ⌝ }
 {
-    let mut bytes = [255u8; 48];
-    if n == 16 {
+    let mut bytes = [NIL; LIST_LENGTH];
+    if n == MOST_STATIONS {
         let answer = call::call(net, g, c, &mut bytes);
         filling_of(answer, bytes)
     } else {
@@ -62,7 +66,7 @@ fn call_bytes(net: &[u8], g: u8, c: u8, n: usize) -> Filling
 
 // Entry i of the bytes.
 fn reach_at(k: Filling, i: usize) -> Reach
-    requires { ⌜ i < 16 ⌝ }
+    requires { ⌜ i < mostStations ⌝ }
     ensures { λ r. ⌜ r ≡ reachAt (k .bytes) i ⌝ }
 {
     let bytes = k.bytes;

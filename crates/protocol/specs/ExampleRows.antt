@@ -88,12 +88,12 @@ calls S g c fits o r k =
     record { start = S; says = eqb (a .outcome) o && eqb (a .reached) r && eqb (a .copies) k }
 
 -- the reach list: "station, parent (255 for the root), depth"; "later entries hold 255 three times"
-abbrev pub place : ℕ → ℕ → ℕ → Reach
-place p q k = record { station = p; parent = q; depth = k }
+abbrev pub reachEntry : ℕ → ℕ → ℕ → Reach
+reachEntry p q k = record { station = p; parent = q; depth = k }
 
-unfoldable pub placeNumbers : List Reach → List ℕ
-placeNumbers [] = []
-placeNumbers (r ∷ l) = r .station ∷ r .parent ∷ r .depth ∷ placeNumbers l
+unfoldable pub listNumbers : List Reach → List ℕ
+listNumbers [] = []
+listNumbers (r ∷ l) = r .station ∷ r .parent ∷ r .depth ∷ listNumbers l
 
 abbrev pub hasReach : Start → ℕ → List Reach → Row
-hasReach S g l = record { start = S; says = sameNumbers (placeNumbers (reachList (net S) g)) (placeNumbers l ++ replicate (3 * (16 - length l)) 255) }
+hasReach S g l = record { start = S; says = sameNumbers (listNumbers (reachList (net S) g)) (listNumbers l ++ replicate (3 * (16 - length l)) 255) }

@@ -12,7 +12,7 @@ use Rattle.protocol.specs.declared.Message.{Message}
 use Rattle.protocol.specs.Net.{nil}
 use Rattle.protocol.specs.ExampleNets.{Step, Cable, Start, new, _knowing_, _carrying_, _having_, _by_}
 use Rattle.protocol.specs.ExampleRows.{Row, gives, giveEach, entry, knows, aRequest, aReply, holds, inAllChannels, leads, counts, ends}
-use Rattle.protocol.specs.ExampleRows.{scriptGives, finds, calls, place, hasReach}
+use Rattle.protocol.specs.ExampleRows.{scriptGives, finds, calls, reachEntry, hasReach}
 
 -- ---- the plans
 -- one group "A" with root 0: a sole station; stations 0-1; 0-1-2 in a line; 0-1-3 and 0-2
@@ -304,15 +304,15 @@ grown =
 abbrev ofCalls : List Row
 ofCalls =
     -- "from the root, lowest child first, a whole branch before the next"; as many are reached from any station on the tree
-    hasReach grown 0 (place 0 nil 0 ∷ place 1 0 1 ∷ place 3 1 2 ∷ place 2 0 1 ∷ [])
+    hasReach grown 0 (reachEntry 0 nil 0 ∷ reachEntry 1 0 1 ∷ reachEntry 3 1 2 ∷ reachEntry 2 0 1 ∷ [])
     ∷ calls grown 0 0 true 0 4 3
     ∷ calls grown 0 3 true 0 4 3
     -- "children here are the agreed ones": 2 leaves, and 0 still lists it
-    ∷ hasReach (grown by (8, 0, 2, 0)) 0 (place 0 nil 0 ∷ place 1 0 1 ∷ place 3 1 2 ∷ [])
+    ∷ hasReach (grown by (8, 0, 2, 0)) 0 (reachEntry 0 nil 0 ∷ reachEntry 1 0 1 ∷ reachEntry 3 1 2 ∷ [])
     ∷ calls (grown by (8, 0, 2, 0)) 0 3 true 0 3 2
     ∷ calls (grown by (8, 0, 2, 0)) 0 2 true 8 0 0
     -- each group from its own root
-    ∷ hasReach hulls 1 (place 1 nil 0 ∷ [])
+    ∷ hasReach hulls 1 (reachEntry 1 nil 0 ∷ [])
     -- a parent that does not list the station; the same one hop up; two that are each other's parents
     ∷ calls (middle (entry 0 0 1 1 0 0)) 0 1 true 8 0 0
     ∷ calls (middle (entry 0 0 0 1 0b100 0) knowing (0, 2, entry 1 1 1 1 0 0)) 0 2 true 8 0 0

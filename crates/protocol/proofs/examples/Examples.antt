@@ -20,13 +20,13 @@ use Rattle.protocol.specs.Calls.{treeOf, callOutcome, called, reachList}
 use Rattle.protocol.specs.Shaped.{All, Shaped}
 use Rattle.protocol.specs.ExampleNets.{scriptOf, neighboursBy, planBy, net, every}
 use Rattle.protocol.specs.ExampleNets.{groupFits, differ, cableFits, planFits, entryFits, messageFits, proper}
-use Rattle.protocol.specs.ExampleRows.{Row, right, messageNumbers, placeNumbers}
+use Rattle.protocol.specs.ExampleRows.{Row, right, messageNumbers, listNumbers}
 use Rattle.protocol.specs.Examples.{crowded, examples}
 use Rattle.protocol.proofs.laws.Maps.{All-map}
 use Rattle.protocol.proofs.examples.Nets.{every-all, proper-shaped}
 
 pub examples-right : right examples ≡ true
-unfolding right messageNumbers placeNumbers examples crowded
+unfolding right messageNumbers listNumbers examples crowded
     scriptOf neighboursBy planBy net every groupFits differ cableFits planFits entryFits messageFits proper
     has with without below within over
     agreed climbs onTree picked visits visit reach passesTo flood spread
