@@ -30,7 +30,7 @@ use Rattle.net.proofs.Saved.{view-channel, seen, channel-is, view-bytes, bytes-
 
 pub is-net : (l : List ℕ) → shaped l ≡ true → IsNet l
 unfolding view planIn
-is-net l s = let H = seen l s in record { shape = s; long = long l s; stationsShown = refl; groupsShown = refl; few = H .plan .few; fewGroups = H .plan .fewGroups }
+is-net l s = let H = seen l s in record { shape = s; long = long l s; stationsShown = refl; groupsShown = refl; stationsMost = H .plan .stationsMost; groupsMost = H .plan .groupsMost }
 
 -- bytes that are those of a well-shaped net
 pub is-net-of : (N : Net) (l : List ℕ) → Shaped N → l ≡ bytesOf N → (IsNet l) × (view l ≡ N)
@@ -43,7 +43,7 @@ module _ (l : List ℕ) (r : IsNet l) where
   -- the channel from s to d, as it is lent: its width is the code's `at + 57 - at`
   module _ (s d at : ℕ) (hs : s < view l .stations) (hd : d < view l .stations) (e : at ≡ channelAt s d) where
     lent-is : lent at (at + 57 - at) l ≡ part 57 l (channelAt s d)
-    lent-is = rw add-sub-cancel-left (part-lent 57 l at (omega (arith, r .long, r .few)) ∙ ap (part 57 l) e)
+    lent-is = rw add-sub-cancel-left (part-lent 57 l at (omega (arith, r .long, r .stationsMost)) ∙ ap (part 57 l) e)
 
     pub channel-lent : IsChannel (lent at (at + 57 - at) l) × (messagesOf (lent at (at + 57 - at) l) ≡ view l .channel s d)
     channel-lent =
@@ -56,9 +56,9 @@ module _ (l : List ℕ) (r : IsNet l) where
     pub channel-back : (ms : List Message) → length ms ≤ capacity → back at (at + 57 - at) l (channelBytes ms) ≡ bytesOf (setChannel (view l) s d ms)
     channel-back ms most =
         rw add-sub-cancel-left
-        (put-whole at 57 l (channelBytes ms) (length-channel ms most) (omega (arith, r .long, r .few))
+        (put-whole at 57 l (channelBytes ms) (length-channel ms most) (omega (arith, r .long, r .stationsMost))
         ∙ (λ i. splice (sym here i) (e i) (channelBytes ms))
-        ∙ sym (bytes-channel (view l) (r .few) (r .fewGroups) s d ms most hs hd))
+        ∙ sym (bytes-channel (view l) (r .stationsMost) (r .groupsMost) s d ms most hs hd))
 
   -- the name of group g, as it is lent
   module _ (g at n : ℕ) (h : g < view l .groups) (i : at ≡ groupAt g + 1) (e : n ≡ nameLength l g) where
@@ -70,7 +70,7 @@ module _ (l : List ℕ) (r : IsNet l) where
     name-lent =
         let hg : g < groups l = omega (arith, r .groupsShown) in
         rw add-sub-cancel-left
-        (part-lent n l at (omega (arith, name-few, r .long, r .fewGroups)) ∙ ap (part n l) i
+        (part-lent n l at (omega (arith, name-few, r .long, r .groupsMost)) ∙ ap (part n l) i
         ∙ sym (plan-name l g hg
         ∙ ap (λ (k : ℕ). lent 1 k (part 17 l (groupAt g))) (getD-part 17 l (groupAt g) 0 (omega arith) ∙ ap (byte l) (add-zero (groupAt g)) ∙ sym e)
         ∙ part-lent n (part 17 l (groupAt g)) 1 (omega (arith, name-few, length-part 17 l (groupAt g)))
@@ -83,9 +83,9 @@ module _ (l : List ℕ) (r : IsNet l) where
   pub entry-back : (g p a : ℕ) (e : Entry) → a ≡ entryRowAt g → g < view l .groups → p < view l .stations
       → back a (a + 192 - a) l (splice (lent a (a + 192 - a) l) (12 * p) (entryBytes e)) ≡ bytesOf (setEntry (view l) g p e)
   entry-back g p a e i hg hp =
-      lent-back a (a + 192 - a) l (12 * p) (entryBytes e) (omega (arith, length-entryBytes e, r .few))
+      lent-back a (a + 192 - a) l (12 * p) (entryBytes e) (omega (arith, length-entryBytes e, r .stationsMost))
       ∙ (λ j. splice (sym here j) (i j + 12 * p) (entryBytes e))
-      ∙ sym (bytes-entry (view l) (r .few) (r .fewGroups) g p e hg hp)
+      ∙ sym (bytes-entry (view l) (r .stationsMost) (r .groupsMost) g p e hg hp)
 
   pub route-back : (p d at q : ℕ) → at ≡ routeAt p d → p < view l .stations → d < view l .stations → splice l at (q ∷ []) ≡ bytesOf (setRoute (view l) p d q)
-  route-back p d at q i hp hd = (λ j. splice (sym here j) (i j) (q ∷ [])) ∙ sym (bytes-route (view l) (r .few) (r .fewGroups) p d q hp hd)
+  route-back p d at q i hp hd = (λ j. splice (sym here j) (i j) (q ∷ [])) ∙ sym (bytes-route (view l) (r .stationsMost) (r .groupsMost) p d q hp hd)

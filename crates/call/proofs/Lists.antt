@@ -66,7 +66,7 @@ module _ (l : List ℕ) (R : IsNet l) (g : ℕ) (h : g < view l .groups) where
       group = h;
       station = rw root (seen l (R .shape) .plan .roots g h);
       long = k;
-      deep = omega (arith, R .few);
+      deep = omega (arith, R .stationsMost);
       room = omega (arith, few, root-length);
     }
 

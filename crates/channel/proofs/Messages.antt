@@ -55,7 +55,7 @@ module _ (b : List ℕ) (h : IsChannel b) where
   slots-are = ap (inUse messageSize) (h .form) ∙ things.slots-written capacity messageSize messageBytes messageOf length-messageBytes (messagesOf b)
 
   pub queue : Queue capacity messageSize b
-  queue = subst (Queue capacity messageSize) (sym (h .form)) (things.queue-written capacity messageSize messageBytes messageOf length-messageBytes (messagesOf b) (h .few))
+  queue = subst (Queue capacity messageSize) (sym (h .form)) (things.queue-written capacity messageSize messageBytes messageOf length-messageBytes (messagesOf b) (h .atMost))
 
   pub removed-list : (i : ℕ) → laid capacity messageSize (removeAt i (inUse messageSize b)) ≡ channelBytes (removeAt i (messagesOf b))
   removed-list i = ap (λ (l : List (List ℕ)). laid capacity messageSize (removeAt i l)) slots-are ∙ ap (laid capacity messageSize) (sym (map-removeAt messageBytes i (messagesOf b)))

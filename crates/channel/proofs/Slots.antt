@@ -62,7 +62,7 @@ pub body-len : (most w k : ℕ) (t : List ℕ) → Queue most w (k ∷ t) → le
 body-len most w k t h = omega (arith, h .len)
 
 pub used-le : (most w k : ℕ) (t : List ℕ) → Queue most w (k ∷ t) → k * w ≤ length t
-used-le most w k t h = rw (body-len most w k t h) (mul-le-mul-right w (h .few))
+used-le most w k t h = rw (body-len most w k t h) (mul-le-mul-right w (h .atMost))
 
 pub body-clear : (most w k : ℕ) (t : List ℕ) → Queue most w (k ∷ t) → drop (k * w) t ≡ replicate ((most - k) * w) 0
 body-clear most w k t h = rw one-add at (h .clear)
@@ -82,7 +82,7 @@ unfolding laid
 shaped-bytes most w ms h few =
     record {
       len = simp (length-append, length-replicate, length-flat w ms h) (omega (arith, used-and-free most w (length ms) few));
-      few = few;
+      atMost = few;
       clear = rw one-add (drop-at (flat ms) _ _ (length-flat w ms h));
     }
 
@@ -145,7 +145,7 @@ removed-cons most w i k q t h hq xs m ys e li =
     let kw : k * w ≡ length xs * w + suc (length ys) * w = rw (← lk, length-append, add-mul) in
     rw (e, ← li, removeAt-split xs m ys, n)
     (ap (λ (l : List ℕ). length (xs ++ ys) ∷ l)
-    (removed-body most w xs m ys (length xs * w) q sz (omega (arith, h .few)) refl
+    (removed-body most w xs m ys (length xs * w) q sz (omega (arith, h .atMost)) refl
     (hq ∙ rw (kw, ← li) (omega arith))
     t
     (rw e at (body-of-slots most w k t h))))

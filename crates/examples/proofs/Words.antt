@@ -36,7 +36,7 @@ called-reads a s = record { outcome = omega arith; reached = omega arith; copies
 module _ (N : Net) (H : Shaped N) where
   find-small : (w : List ℕ) → SmallFound (find N w)
   find-small w = by-lt (firstFrom (λ i. sameName (N .name i) w) 0 (N .groups)) (N .groups)
-      (λ h. rw (find-hit N w h) (omega arith, omega (arith, H .plan .fewGroups)))
+      (λ h. rw (find-hit N w h) (omega arith, omega (arith, H .plan .groupsMost)))
       (λ h. rw (find-miss N w h) (omega arith, omega arith))
 
   call-small : (g c : ℕ) (fits : Bool) → SmallCalled (called N g c fits)

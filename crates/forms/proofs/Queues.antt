@@ -120,7 +120,7 @@ module _ {E M : Type 0} (v : Version E M) (w : ℕ) (μ : Codec w M (λ c. v .Me
         let here = past-slots l at in
         record {
           len = n;
-          few = omega (arith, few);
+          atMost = omega (arith, few);
           clear = ext-getD 0 _ _ (simp (length-drop, length-replicate) (omega arith))
               (λ i j.
               let j′ : i < length (b l at) - (1 + getD (b l at) 0 0 * w) = rw length-drop at j in

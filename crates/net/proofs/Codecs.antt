@@ -103,7 +103,7 @@ module _ (c : Place) (e : Entry) (F : PlanBounds c) (G : ShapedEntry (c .near) (
       rw (e1, e2, e3, e4, e5, gap)
       (and-both _ _
       (and-both _ _ (and-both _ _ (near-passes _ _ (G .parentNear)) (near-passes _ _ (G .tentativeNear)))
-      (suppose _ _ (λ t. let w = G .top (sym (eqb-true _ _ t)) in and-both _ _ (eq-eqb _ nil (w .0)) (eq-eqb _ nil (w .1)))))
+      (suppose _ _ (λ t. let w = G .nilAtRoot (sym (eqb-true _ _ t)) in and-both _ _ (eq-eqb _ nil (w .0)) (eq-eqb _ nil (w .1)))))
       (and-both _ _ (and-both _ _ (and-both _ _ (le-leb _ 1 (G .flag)) refl) (within-of 16 _ _ (λ x _. G .childrenNear x))) (within-of 16 _ _ (λ x _. G .waitingNear x))))
 
 module _ (c : Place) (l : List ℕ) (at : ℕ) (b : Bytes l) (t : entryShaped (c .near) (c .root) (c .col) l at ≡ true) where
@@ -111,7 +111,7 @@ module _ (c : Place) (l : List ℕ) (at : ℕ) (b : Bytes l) (t : entryShaped (c
   entry-shows = subst (ShapedEntry (c .near) (c .root) (c .col)) (sym (fields l at)) (record {
     parentNear = parent-near _ _ _ l at t;
     tentativeNear = tentative-near _ _ _ l at t;
-    top = λ e. at-root _ _ _ l at t (sym e);
+    nilAtRoot = λ e. at-root _ _ _ l at t (sym e);
     flag = member-at _ _ _ l at t .0;
     childrenNear = λ x h. within-has 16 _ _ x (children-near _ _ _ l at t) (bits-below _ 16 x (numberAt-lt 2 l (at + 8) b) h) h;
     waitingNear = λ x h. within-has 16 _ _ x (waiting-near _ _ _ l at t) (bits-below _ 16 x (numberAt-lt 2 l (at + 10) b) h) h;

@@ -107,7 +107,7 @@ module _ (l : List ℕ) (s : shaped l ≡ true) where
   channel-is p q h k =
       let b = part channelSize l (channelAt p q) in
       let w = forms.channel-form saved l in-form p q h k in
-      record { form = sym (w .0); few = w .1 .atMost; long = length-part channelSize l (channelAt p q); said = sym (length-messages b) }
+      record { form = sym (w .0); atMost = w .1 .atMost; long = length-part channelSize l (channelAt p q); said = sym (length-messages b) }
 
 pub view-injective : (a b : List ℕ) → shaped a ≡ true → shaped b ≡ true → view a ≡ view b → a ≡ b
 view-injective a b ha hb e = sym (view-bytes a ha) ∙ ap bytesOf e ∙ view-bytes b hb

@@ -34,8 +34,8 @@ module _ (N : Net) (H : Shaped N) (g : ℕ) (l : g < N .groups) where
     low = λ p j a. let t : has (N .entry g p .children) j ≡ true = and-l _ (eqb (N .entry g j .parent) p) a in
         H .plan .cables p j (H .entries g p .childrenNear j t) .1;
     station = H .plan .roots g l;
-    top = is-false _ (λ a. let few = H .plan .few in
-        let i : N .entry g (N .root g) .parent ≡ nil = H .entries g (N .root g) .top refl .0 in
+    top = is-false _ (λ a. let few = H .plan .stationsMost in
+        let i : N .entry g (N .root g) .parent ≡ nil = H .entries g (N .root g) .nilAtRoot refl .0 in
         let t : has (N .entry g (N .entry g (N .root g) .parent) .children) (N .root g) ≡ true = and-l _ (eqb (N .entry g (N .root g) .parent) (N .entry g (N .root g) .parent)) a in
         let z : N .entry g (N .entry g (N .root g) .parent) .children ≡ 0 = ap (λ (v : Entry). v .children) (H .noStation g _ (omega arith)) in
         clash t (ap (λ (m : ℕ). has m (N .root g)) z ∙ has-zero (N .root g)));
@@ -43,7 +43,7 @@ module _ (N : Net) (H : Shaped N) (g : ℕ) (l : g < N .groups) where
 
   few-stations : treeOf N g .stations ≤ nil
   unfolding treeOf
-  few-stations = let few = H .plan .few in omega arith
+  few-stations = let few = H .plan .stationsMost in omega arith
 
   pub call-copies : (c : ℕ) → OnTree (treeOf N g) c → suc (length (spread (treeOf N g) c)) ≡ length (reach (treeOf N g))
   unfolding spread
@@ -55,7 +55,7 @@ module _ (N : Net) (H : Shaped N) (g : ℕ) (l : g < N .groups) where
 
   pub reach-few : length (reach (treeOf N g)) ≤ mostStations
   unfolding treeOf
-  reach-few = let few = H .plan .few in omega (arith, reach-at-most (treeOf N g) tree-rooted)
+  reach-few = let few = H .plan .stationsMost in omega (arith, reach-at-most (treeOf N g) tree-rooted)
 
   pub reachList-length : length (reachList N g) ≡ mostStations
   unfolding reachList

@@ -18,13 +18,13 @@ pub data All {A : Type 0} (P : A → Type 0) : List A → Type 0 where
 
 pub record ShapedPlan (P : Plan) : Type 0 where
   -- "n and g in range"
-  pub some : 1 ≤ P .stations
-  pub few : P .stations ≤ mostStations
-  pub someGroups : 1 ≤ P .groups
-  pub fewGroups : P .groups ≤ mostGroups
+  pub stationsLeast : 1 ≤ P .stations
+  pub stationsMost : P .stations ≤ mostStations
+  pub groupsLeast : 1 ≤ P .groups
+  pub groupsMost : P .groups ≤ mostGroups
   -- "name length 1 to 16, .. names distinct (any byte values); each root below n"
   pub named : (g : ℕ) → g < P .groups → (1 ≤ length (P .name g)) × (length (P .name g) ≤ longestName)
-  pub letters : (g i : ℕ) → getD (P .name g) i 0 < 256
+  pub nameIsBytes : (g i : ℕ) → getD (P .name g) i 0 < 256
   pub distinct : (g h : ℕ) → g < P .groups → h < g → P .name g ≢ P .name h
   pub roots : (g : ℕ) → g < P .groups → P .root g < P .stations
   -- "masks name stations below n; the neighbour relation is symmetric and no station neighbours itself"
@@ -38,7 +38,7 @@ pub record ShapedEntry (nb r p : ℕ) (e : Entry) : Type 0 where
   -- "parent and tentative parent are nil or neighbours, both nil at the root"
   pub parentNear : e .parent ≢ nil → has nb (e .parent) ≡ true
   pub tentativeNear : e .tentative ≢ nil → has nb (e .tentative) ≡ true
-  pub top : p ≡ r → (e .parent ≡ nil) × (e .tentative ≡ nil)
+  pub nilAtRoot : p ≡ r → (e .parent ≡ nil) × (e .tentative ≡ nil)
   -- "member is 0 or 1; children and waiting lie within the neighbours"
   pub flag : e .member ≤ 1
   pub childrenNear : (x : ℕ) → has (e .children) x ≡ true → has nb x ≡ true

@@ -15,5 +15,5 @@ pub record IsNet (l : List ℕ) : Type 0 where
   pub long : length l ≡ netLength
   pub stationsShown : view l .stations ≡ stations l
   pub groupsShown : view l .groups ≡ groups l
-  pub few : view l .stations ≤ mostStations
-  pub fewGroups : view l .groups ≤ mostGroups
+  pub stationsMost : view l .stations ≤ mostStations
+  pub groupsMost : view l .groups ≤ mostGroups

@@ -99,7 +99,7 @@ returns-2 c = let y = c .before .before in
     ends-4 _ _ (c .refused2 .ensures) (operands (y .before .before .before .before .before .before .before)) (sym (may y) ∙ not-true _ (c .before .if2 .taken))
 
 asking-requires : tie.Need-asking-requires
-asking-requires c κs = let y = c .before in rw (route (y .before .before .before .before)) (omega (arith, near y, y .before .before .before .before .before .before .before .before .before .before .before .before .pre .few))
+asking-requires c κs = let y = c .before in rw (route (y .before .before .before .before)) (omega (arith, near y, y .before .before .before .before .before .before .before .before .before .before .before .before .pre .stationsMost))
 
 request-requires : tie.Need-request-requires
 request-requires c κs = let y = c .before .before in

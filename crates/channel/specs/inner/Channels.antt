@@ -10,7 +10,7 @@ use Rattle.channel.specs.Messages.{messagesOf, channelBytes}
 -- bytes that are a channel's, in its one form. (The last two fields follow from the first two; they serve callers' arithmetic)
 pub record IsChannel (b : List ℕ) : Type 0 where
   pub form : b ≡ channelBytes (messagesOf b)
-  pub few : length (messagesOf b) ≤ capacity
+  pub atMost : length (messagesOf b) ≤ capacity
   pub long : length b ≡ channelSize
   pub said : getD b 0 0 ≡ length (messagesOf b)
 
@@ -22,7 +22,7 @@ movedUp w d = drop w d ++ replicate w 0
 -- a channel's bytes have this form: their length, a count within the capacity, and zero past the slots in use
 pub record Queue (most w : ℕ) (b : List ℕ) : Type 0 where
   pub len : length b ≡ 1 + most * w
-  pub few : getD b 0 0 ≤ most
+  pub atMost : getD b 0 0 ≤ most
   pub clear : drop (1 + getD b 0 0 * w) b ≡ replicate ((most - getD b 0 0) * w) 0
 
 -- each is w long

@@ -47,7 +47,7 @@ entry-of-requires : tie.Need-entry-of-requires
 entry-of-requires c κs = let s = c .before .before .before .before in (s .pre .0, (in-groups s, to s))
 
 with-child-requires : tie.Need-with-child-requires
-with-child-requires c κs = let s = c .before .before .before .before .before in omega (arith, from s, s .pre .0 .few)
+with-child-requires c κs = let s = c .before .before .before .before .before in omega (arith, from s, s .pre .0 .stationsMost)
 
 take-at-requires : tie.Need-take-at-requires
 take-at-requires c κs = let s = c .before .before .before .before .before .before .before in (s .pre .0, (from s, to s, s .pre .1 .0 .some))

@@ -74,7 +74,7 @@ entry-of-requires : tie.Need-entry-of-requires
 entry-of-requires c κs = let x = c .before .before .before .before .before .before in let w = in-range x in (x .before .before .before .before .pre, (w .0, w .1))
 
 without-child-requires : tie.Need-without-child-requires
-without-child-requires c κs = let x = c .before .before .before .before .before .before .before in omega (arith, in-range x .2, x .before .before .before .before .pre .few)
+without-child-requires c κs = let x = c .before .before .before .before .before .before .before in omega (arith, in-range x .2, x .before .before .before .before .pre .stationsMost)
 
 stay-or-leave-requires : tie.Need-stay-or-leave-requires
 stay-or-leave-requires c κs = search needs

@@ -43,25 +43,25 @@ module _ {E M : Type 0} {v : Version E M} (φ : Form v) where
 
       routes-shaped : ShapedIn (φ .routes) (N .stations) (N .stations) (stationPlace nb (N .stations) (N .groups)) (N .route)
       routes-shaped = record {
-        fewRows = H .plan .few;
-        fewCols = H .plan .few;
-        bounds = λ i j h k. record { stations = H .plan .few; groups = H .plan .fewGroups; near = λ x. near-below i x h };
+        fewRows = H .plan .stationsMost;
+        fewCols = H .plan .stationsMost;
+        bounds = λ i j h k. record { stations = H .plan .stationsMost; groups = H .plan .groupsMost; near = λ x. near-below i x h };
         shaped = λ i j h k n. let w = H .routes i j n in (ap (λ (m : ℕ). has m (N .route i j)) (nb-is i h) ∙ w .0, w .2);
       }
 
       entries-shaped : ShapedIn (φ .entries) (N .groups) (N .stations) (entryPlace nb r (N .stations) (N .groups)) (N .entry)
       entries-shaped = record {
-        fewRows = H .plan .fewGroups;
-        fewCols = H .plan .few;
-        bounds = λ i j h k. record { stations = H .plan .few; groups = H .plan .fewGroups; near = λ x. near-below j x k };
+        fewRows = H .plan .groupsMost;
+        fewCols = H .plan .stationsMost;
+        bounds = λ i j h k. record { stations = H .plan .stationsMost; groups = H .plan .groupsMost; near = λ x. near-below j x k };
         shaped = λ i j h k. rw (nb-is j k, r-is i h) (H .entries i j);
       }
 
       channels-shaped : ShapedIn (φ .channels) (N .stations) (N .stations) (stationPlace nb (N .stations) (N .groups)) (N .channel)
       channels-shaped = record {
-        fewRows = H .plan .few;
-        fewCols = H .plan .few;
-        bounds = λ i j h k. record { stations = H .plan .few; groups = H .plan .fewGroups; near = λ x. near-below i x h };
+        fewRows = H .plan .stationsMost;
+        fewCols = H .plan .stationsMost;
+        bounds = λ i j h k. record { stations = H .plan .stationsMost; groups = H .plan .groupsMost; near = λ x. near-below i x h };
         shaped = λ i j h k. rw (nb-is i h) (H .channels i j);
       }
 

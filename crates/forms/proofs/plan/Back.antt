@@ -46,7 +46,7 @@ module _ (P : Plan) (G : ShapedPlan P) (h : Header) (l : List ℕ) (K : HoldsPla
 
   group-part : (g : ℕ) → g < P .groups → part 18 l (groupAt g) ≡ nameBytes (P .name g) ++ (P .root g ∷ [])
   group-part g b =
-      K .groups g (omega (arith, G .fewGroups)) ∙ ap (λ (x : List ℕ). part 18 x 0) (group-used P g b)
+      K .groups g (omega (arith, G .groupsMost)) ∙ ap (λ (x : List ℕ). part 18 x 0) (group-used P g b)
       ∙ part-whole 18 _ (omega (arith, length-append (nameBytes (P .name g)) (P .root g ∷ []), length-nameBytes (P .name g)))
 
   name-part : (g : ℕ) → g < P .groups → part 17 l (groupAt g) ≡ nameBytes (P .name g)
@@ -63,8 +63,8 @@ module _ (P : Plan) (G : ShapedPlan P) (h : Header) (l : List ℕ) (K : HoldsPla
   pub back-mask : (p : ℕ) → p < P .stations → neighbours l p ≡ P .neighbours p
   unfolding numberAt
   back-mask p b =
-      ap number (K .masks p (omega (arith, G .few)) ∙ ap (λ (x : List ℕ). part 2 x 0) (mask-used P p b) ∙ part-whole 2 _ (length-bytes 2 (P .neighbours p)))
-      ∙ number-bytes 2 (P .neighbours p) (mask-fits 16 (P .neighbours p) (λ j t. omega (arith, G .few, G .cables p j t .1)))
+      ap number (K .masks p (omega (arith, G .stationsMost)) ∙ ap (λ (x : List ℕ). part 2 x 0) (mask-used P p b) ∙ part-whole 2 _ (length-bytes 2 (P .neighbours p)))
+      ∙ number-bytes 2 (P .neighbours p) (mask-fits 16 (P .neighbours p) (λ j t. omega (arith, G .stationsMost, G .cables p j t .1)))
 
   none-mask : (p : ℕ) → P .stations ≤ p → P .neighbours p ≡ 0
   none-mask p b = no-bits (P .neighbours p) (λ j. is-false _ (λ t. let c = G .cables p j t in omega arith))
@@ -118,10 +118,10 @@ module _ (P : Plan) (G : ShapedPlan P) (h : Header) (l : List ℕ) (K : HoldsPla
           eq-eqb (h .size) (h .size) refl,
           eq-eqb (h .version) (h .version) refl,
           eq-eqb (h .byte7) (h .byte7) refl,
-          le-leb 1 (P .stations) (G .some),
-          le-leb (P .stations) 16 (G .few),
-          le-leb 1 (P .groups) (G .someGroups),
-          le-leb (P .groups) 4 (G .fewGroups),
+          le-leb 1 (P .stations) (G .stationsLeast),
+          le-leb (P .stations) 16 (G .stationsMost),
+          le-leb 1 (P .groups) (G .groupsLeast),
+          le-leb (P .groups) 4 (G .groupsMost),
         )
 
     name-len : (g : ℕ) → g < P .groups → nameLength l g ≡ length (P .name g)
@@ -180,12 +180,12 @@ pub each-plan : (P : Plan) → ShapedPlan P → (h : Header) → h .version < 25
 unfolding planBytes headerBytes nameBytes
 each-plan P G h version byte7 =
     each-append
-    (each-append (each-number 4 (h .size)) (both version (both (omega (arith, G .few)) (both (omega (arith, G .fewGroups)) (both byte7 none)))))
+    (each-append (each-number 4 (h .size)) (both version (both (omega (arith, G .stationsMost)) (both (omega (arith, G .groupsMost)) (both byte7 none)))))
     (each-append
     (each-cell _ _ _ (λ g. by-lt g (P .groups)
     (λ b. rw (group-used P g b)
-    (each-append (each-part 17 (both (omega (arith, G .named g b .1)) (each-of (P .name g) (G .letters g))))
-    (both (omega (arith, G .roots g b, G .few)) none)))
+    (each-append (each-part 17 (both (omega (arith, G .named g b .1)) (each-of (P .name g) (G .nameIsBytes g))))
+    (both (omega (arith, G .roots g b, G .stationsMost)) none)))
     (λ b. rw (group-unused P g b) none)))
     (each-cell _ _ _ (λ p. by-lt p (P .stations)
     (λ b. rw (mask-used P p b) (each-number 2 (P .neighbours p)))

@@ -67,12 +67,12 @@ module _ (l : List ℕ) (h : Header) (s : planned l h ≡ true) (small : Bytes l
   pub seen-plan : ShapedPlan (planIn l)
   unfolding planIn
   seen-plan = let c = counts l h s in record {
-    some = c .0;
-    few = c .1;
-    someGroups = c .2;
-    fewGroups = c .3;
+    stationsLeast = c .0;
+    stationsMost = c .1;
+    groupsLeast = c .2;
+    groupsMost = c .3;
     named = λ g b. rw (name-length g b) (name-at l h s g b);
-    letters = letter;
+    nameIsBytes = letter;
     distinct = new-name;
     roots = λ g b. rw (plan-root l g b) (root-at l h s g b);
     cables = cable;

@@ -63,7 +63,7 @@ entry-of-requires : tie.Need-entry-of-requires
 entry-of-requires c κs = let x = c .before .before .before .before in let w = in-range x in (x .before .before .before .before .pre, (w .0, w .1))
 
 stops-waiting-requires : tie.Need-stops-waiting-requires
-stops-waiting-requires c κs = let x = c .before .before .before .before .before .before in omega (arith, in-range x .2, x .before .before .before .before .pre .few)
+stops-waiting-requires c κs = let x = c .before .before .before .before .before .before in omega (arith, in-range x .2, x .before .before .before .before .pre .stationsMost)
 
 set-entry-requires : tie.Need-set-entry-requires
 set-entry-requires c κs = let x = c .before .before .before .before .before .before .before in let w = in-range x in (x .before .before .before .before .pre, (w .0, w .1))

@@ -119,12 +119,12 @@ plan-fits gs n cs f =
     let k : every (cableFits n) cs ≡ true = search (and-l, and-r) in
     let fits : (g : ℕ) → g < length gs → groupFits n (getD gs g noGroup) ≡ true = λ g l. All-at g noGroup l (every-all _ gs e) in
     record {
-      some = leb-true _ _ a;
-      few = leb-true _ _ b;
-      someGroups = leb-true _ _ c;
-      fewGroups = leb-true _ _ d;
+      stationsLeast = leb-true _ _ a;
+      stationsMost = leb-true _ _ b;
+      groupsLeast = leb-true _ _ c;
+      groupsMost = leb-true _ _ d;
       named = λ g l. group-named n _ (fits g l);
-      letters = λ g i. by-lt g (length gs) (λ l. group-letters n _ (fits g l) i) (λ l. rw (past gs g l) (omega arith));
+      nameIsBytes = λ g i. by-lt g (length gs) (λ l. group-letters n _ (fits g l) i) (λ l. rw (past gs g l) (omega arith));
       distinct = differ-at gs h;
       roots = λ g l. group-root n _ (fits g l);
       cables = cables-fits n cs k;
@@ -157,7 +157,7 @@ entry-fits nb r p e f =
     record {
       parentNear = near-of nb _ a;
       tentativeNear = near-of nb _ b;
-      top = λ i. equal-both _ _ _ _ (supposed (eqb p r) _ c (eq-eqb p r i));
+      nilAtRoot = λ i. equal-both _ _ _ _ (supposed (eqb p r) _ c (eq-eqb p r i));
       flag = leb-true _ _ d;
       childrenNear = mask-near nb _ h h′;
       waitingNear = mask-near nb _ w w′;

@@ -99,7 +99,7 @@ module _ (N : Net) (H : Shaped N) where
       let w = near-cable s d o in
       let k : ShapedMessage (N .groups) m = rw i (oldest-shaped s d h) in
       entry-shaped (takeAt N s d 0) (take-shaped N H s d 0) _ d _ (k .grouped) (w .1)
-      (shaped-hearing (H .entries (m .group) d) s m (w .3) (λ j. omega (arith, H .plan .few)) (k .clockFits))
+      (shaped-hearing (H .entries (m .group) d) s m (w .3) (λ j. omega (arith, H .plan .stationsMost)) (k .clockFits))
 
   -- a channel that had room still has it after another message is taken out
   pub taken-room : (s d i x y : ℕ) → room? N x y ≡ true → length (takeAt N s d i .channel x y) < capacity

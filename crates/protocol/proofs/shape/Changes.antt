@@ -22,7 +22,7 @@ pub blank-shaped : (nb r p : ℕ) → ShapedEntry nb r p blank
 blank-shaped nb r p = record {
   parentNear = λ n. absurd (n refl);
   tentativeNear = λ n. absurd (n refl);
-  top = λ _. (refl, refl);
+  nilAtRoot = λ _. (refl, refl);
   flag = omega arith;
   childrenNear = λ x t. clash t (has-zero x);
   waitingNear = λ x t. clash t (has-zero x);

@@ -34,16 +34,16 @@ module _ {nb r p : ℕ} {e : Entry} (K : ShapedEntry nb r p e) where
   -- other masks; other parents; another flag; another clock
   shaped-masks : (c w : ℕ) → ((x : ℕ) → has c x ≡ true → has nb x ≡ true) → ((x : ℕ) → has w x ≡ true → has nb x ≡ true)
       → ShapedEntry nb r p (record { parent = e .parent; tentative = e .tentative; member = e .member; clock = e .clock; children = c; waiting = w })
-  shaped-masks c w hc hw = record { parentNear = K .parentNear; tentativeNear = K .tentativeNear; top = K .top; flag = K .flag; childrenNear = hc; waitingNear = hw; clockFits = K .clockFits }
+  shaped-masks c w hc hw = record { parentNear = K .parentNear; tentativeNear = K .tentativeNear; nilAtRoot = K .nilAtRoot; flag = K .flag; childrenNear = hc; waitingNear = hw; clockFits = K .clockFits }
 
   shaped-parents : (q t : ℕ) → (q ≢ nil → has nb q ≡ true) → (t ≢ nil → has nb t ≡ true) → (p ≡ r → (q ≡ nil) × (t ≡ nil)) → ShapedEntry nb r p (withParents e q t)
-  shaped-parents q t hq ht top = record { parentNear = hq; tentativeNear = ht; top = top; flag = K .flag; childrenNear = K .childrenNear; waitingNear = K .waitingNear; clockFits = K .clockFits }
+  shaped-parents q t hq ht top = record { parentNear = hq; tentativeNear = ht; nilAtRoot = top; flag = K .flag; childrenNear = K .childrenNear; waitingNear = K .waitingNear; clockFits = K .clockFits }
 
   pub shaped-member : (v : ℕ) → v ≤ 1 → ShapedEntry nb r p (withMember e v)
-  shaped-member v h = record { parentNear = K .parentNear; tentativeNear = K .tentativeNear; top = K .top; flag = h; childrenNear = K .childrenNear; waitingNear = K .waitingNear; clockFits = K .clockFits }
+  shaped-member v h = record { parentNear = K .parentNear; tentativeNear = K .tentativeNear; nilAtRoot = K .nilAtRoot; flag = h; childrenNear = K .childrenNear; waitingNear = K .waitingNear; clockFits = K .clockFits }
 
   pub shaped-clock : (k : ℕ) → k ≤ largestClock → ShapedEntry nb r p (withClock e k)
-  shaped-clock k h = record { parentNear = K .parentNear; tentativeNear = K .tentativeNear; top = K .top; flag = K .flag; childrenNear = K .childrenNear; waitingNear = K .waitingNear; clockFits = h }
+  shaped-clock k h = record { parentNear = K .parentNear; tentativeNear = K .tentativeNear; nilAtRoot = K .nilAtRoot; flag = K .flag; childrenNear = K .childrenNear; waitingNear = K .waitingNear; clockFits = h }
 
 module _ {nb r p : ℕ} {e : Entry} (K : ShapedEntry nb r p e) where
   pub shaped-waits : (q : ℕ) → has nb q ≡ true → ShapedEntry nb r p (waitsOn e q)
@@ -75,5 +75,5 @@ module _ {nb r p : ℕ} {e : Entry} (K : ShapedEntry nb r p e) where
   unfolding hearing
   shaped-hearing s m h n k = by-bool (adopts e s m)
       (λ t. rw t (shaped-clock (shaped-parents (shaped-stops K s) s (e .tentative) (λ _. h) (K .tentativeNear)
-      (λ i. absurd (n (sym (adopts-sender K s m t) ∙ K .top i .1)))) (m .clock) k))
+      (λ i. absurd (n (sym (adopts-sender K s m t) ∙ K .nilAtRoot i .1)))) (m .clock) k))
       (λ f. rw f (shaped-stops K s))

@@ -140,7 +140,7 @@ module _ (N : Net) {o : ℕ} (S : InvariantIn N o) where
       (λ n. rechannelled S (sending-other (taking (S .core) s d 0) d s _ (λ j. n (sym j))))))
       (λ i. rw i (in-group N (oldest (N .channel) s d .group) d _ _ S
       (λ T. heeded T s d h refl (⊎-elim (λ j. absurd (eqb-false _ _ i j)) (λ j. j) (All-at 0 noMessage h (H .channels s d .each) .kinds))
-      (λ j. omega (arith, H .plan .few, ltb-true s (N .stations) t1)))
+      (λ j. omega (arith, H .plan .stationsMost, ltb-true s (N .stations) t1)))
       (λ n. rechannelled S (taking (S .core) s d 0))))
 
   lose-keeps : (s d i : ℕ) → InvariantIn (lose N s d i .next) o

@@ -50,7 +50,7 @@ module _ (N : Net) (H : Shaped N) (g : ℕ) where
   listing-near : (p q : ℕ) → agreed (treeOf N g) p q ≡ true → p ≢ nil
   unfolding treeOf agreed
   listing-near p q a e =
-      let few = H .plan .few in
+      let few = H .plan .stationsMost in
       let lists : has (N .entry g p .children) q ≡ true = and-l _ (eqb (N .entry g q .parent) p) a in
       let out : N .entry g p .children ≡ 0 = ap (λ (v : Entry). v .children) (H .noStation g p (omega arith)) in
       clash lists (ap (λ (m : ℕ). has m q) out ∙ has-zero q)
@@ -63,7 +63,7 @@ module _ (N : Net) (H : Shaped N) (g : ℕ) where
   -- the parent of a station on the tree lists it and is connected
   lists-it : {p k : ℕ} → Chain (treeOf N g) p k → N .entry g p .parent ≢ nil → has (N .entry g (N .entry g p .parent) .children) p ≡ true
   unfolding treeOf agreed
-  lists-it here n = absurd (n (H .entries g (N .root g) .top refl .0))
+  lists-it here n = absurd (n (H .entries g (N .root g) .nilAtRoot refl .0))
   lists-it (hop {x = x} a c) n = and-l _ (eqb (N .entry g x .parent) (N .entry g x .parent)) a
 
   is-linked : {p k : ℕ} → Chain (treeOf N g) p k → linked (rootIs (N .root g) p) (N .entry g p) ≡ true
@@ -73,14 +73,14 @@ module _ (N : Net) (H : Shaped N) (g : ℕ) where
 
   parent-linked : {p k : ℕ} → Chain (treeOf N g) p k → N .entry g p .parent ≢ nil → linked (rootIs (N .root g) (N .entry g p .parent)) (N .entry g (N .entry g p .parent)) ≡ true
   unfolding treeOf
-  parent-linked here n = absurd (n (H .entries g (N .root g) .top refl .0))
+  parent-linked here n = absurd (n (H .entries g (N .root g) .nilAtRoot refl .0))
   parent-linked (hop a c) n = is-linked c
 
   pub sound-invariant : Sound N g → InvariantIn N g
   unfolding connected
   sound-invariant S = record {
     core = record {
-      rootParent = λ p t. H .entries g p .top (eqb-true p (N .root g) t) .0;
+      rootParent = λ p t. H .entries g p .nilAtRoot (eqb-true p (N .root g) t) .0;
       calls = λ p q. by-bool (has (N .entry g p .waiting) q)
           (λ t. rw t (S .single p q))
           (λ f. rw f (none p q f));
@@ -88,7 +88,7 @@ module _ (N : Net) (H : Shaped N) (g : ℕ) where
       words = λ q p. All-map (λ m v a b c. let w = v a b c in record { lists = w .lists; holds = w .holds; ahead = w .ahead }) (S .replies q p);
       reaches = λ p n. chain-leads (S .chains p n .chain);
     };
-    rootTentative = H .entries g (N .root g) .top refl .1;
+    rootTentative = H .entries g (N .root g) .nilAtRoot refl .1;
     parentJoins = S .parentJoins;
     tentativeJoins = S .tentativeJoins;
     ceiling = S .ceiling;

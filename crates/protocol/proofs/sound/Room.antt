@@ -97,7 +97,7 @@ module _ (N : Net) (H : Shaped N) (S : (g : ℕ) → InvariantIn N g) where
       (λ i. omega (arith, two-kinds g each, S g .core .calls d s, bit-le (has (N .entry g d .waiting) s)))
       (λ i. omega (arith, two-kinds g each, S g .core .calls s d, bit-le (has (N .entry g s .waiting) d)))
       z in
-      lt-ltb (length (N .channel s d)) capacity (omega (arith, H .plan .fewGroups, room-left groupIn (N .groups) 2 g (All-map (λ m k. k .grouped) each) h (two s d) one))
+      lt-ltb (length (N .channel s d)) capacity (omega (arith, H .plan .groupsMost, room-left groupIn (N .groups) 2 g (All-map (λ m k. k .grouped) each) h (two s d) one))
 
   -- a station that does not wait on q has no request to it under way
   unasked : (g p q : ℕ) → group? N g ≡ true → not (has (N .entry g p .waiting) q) ≡ true → room? N p q ≡ true

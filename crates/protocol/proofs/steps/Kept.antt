@@ -44,7 +44,7 @@ module _ (N : Net) where
       let o1 : ltb s (N .stations) ≡ true = search (and-l, and-r) in
       by-bool (eqb (oldest (N .channel) s d .kind) request)
       (λ i. rw i (one _ d _ (λ n _. n)))
-      (λ i. rw i (one _ d _ (heeded s _ _ (λ j. omega (arith, H .plan .few, ltb-true s (N .stations) o1)))))
+      (λ i. rw i (one _ d _ (heeded s _ _ (λ j. omega (arith, H .plan .stationsMost, ltb-true s (N .stations) o1)))))
 
   all-keep : Shaped N → (a b c : ℕ) → All (Owes N (KeepsParents N)) (rules N a b c)
   unfolding rules tick ask refresh lose giveUp dropChild member route send takeAt setChannel setEntry setRoute

@@ -89,7 +89,7 @@ returns-2 c = let y = c .before .before in
     ends-4 _ _ (c .refused2 .ensures) (operands (y .before .before .before)) (sym (may y) ∙ not-true _ (c .before .if2 .taken))
 
 waits-on-requires : tie.Need-waits-on-requires
-waits-on-requires c κs = let y = c .before in rw (parent (y .before .before)) (omega (arith, near y, y .before .before .before .before .before .before .before .before .pre .few))
+waits-on-requires c κs = let y = c .before in rw (parent (y .before .before)) (omega (arith, near y, y .before .before .before .before .before .before .before .before .pre .stationsMost))
 
 request-requires : tie.Need-request-requires
 request-requires c κs = let y = c .before .before in

@@ -94,13 +94,13 @@ module _ (t : ℕ) where
       let s = children-start x in
       let a = s .args in
       let F = s .pre .1 .1 in (
-        omega (arith, s .pre .0, left x, F .is-net .few),
+        omega (arith, s .pre .0, left x, F .is-net .stationsMost),
         take-fit (a .net .now) (a .g) (a .depth) (a .allowance) (a .out .now) (a .p) (a .j) (a .at) (left x) (taken (c .before)) F,
       )
 
   children-add : visit-children-lts.Need-add-visit-children C P visit-children.Post
   children-add c = let x = c .before .before .before .before .before .before in
-      omega (arith, left x, children-start x .pre .1 .1 .is-net .few)
+      omega (arith, left x, children-start x .pre .1 .1 .is-net .stationsMost)
 
   children-visit-children-requires : visit-children-lts.Need-visit-children-requires C P visit-children.Post
   children-visit-children-requires c κs = let v = c .before .before .before in
@@ -109,7 +109,7 @@ module _ (t : ℕ) where
       let s = children-start x in
       let a = s .args in
       let F = s .pre .1 .1 in (
-        omega (arith, s .pre .0, left x, F .is-net .few),
+        omega (arith, s .pre .0, left x, F .is-net .stationsMost),
         (
           omega (arith, left x),
           rest-fit (a .net .now) (a .g) (a .depth) (a .allowance) (a .out .now) (v .visit-station .last .1 .1 .1 .1 .1 .0) (a .p) (a .j) (a .at)
@@ -118,14 +118,14 @@ module _ (t : ℕ) where
       )
 
   children-add-2 : visit-children-lts.Need-add-visit-children-2 C P visit-children.Post
-  children-add-2 c = let x = c .before .before in omega (arith, left x, children-start x .pre .1 .1 .is-net .few)
+  children-add-2 c = let x = c .before .before in omega (arith, left x, children-start x .pre .1 .1 .is-net .stationsMost)
 
   children-visit-children-requires-2 : visit-children-lts.Need-visit-children-requires-2 C P visit-children.Post
   children-visit-children-requires-2 c κs = let x = c .before .before .before in
       let s = children-start x in
       let a = s .args in
       let F = s .pre .1 .1 in (
-        omega (arith, s .pre .0, left x, F .is-net .few),
+        omega (arith, s .pre .0, left x, F .is-net .stationsMost),
         (
           omega (arith, left x),
           skip-fit (a .net .now) (a .g) (a .depth) (a .allowance) (a .out .now) (a .p) (a .j) (a .at) (left x) (skipped (c .before)) F,
