@@ -57,9 +57,9 @@ find-zeros l w n =
     (λ s. by-bool (ltb first-one (view l .groups)) (λ t. absurd (n (rw (s, t) refl))) (λ t. rw (s, t) refl))
     (λ s. rw s refl)
 
-pub czeross : (l : List ℕ) (g c : ℕ) (fits : Bool) → calledIn l g c fits .outcome ≢ 0
+pub call-zeros : (l : List ℕ) (g c : ℕ) (fits : Bool) → calledIn l g c fits .outcome ≢ 0
     → (calledIn l g c fits .reached ≡ 0) × (calledIn l g c fits .copies ≡ 0)
 unfolding calledIn called
-czeross l g c fits n = by-bool (shaped l)
+call-zeros l g c fits n = by-bool (shaped l)
     (λ s. by-bool (eqb (callOutcome (view l) g c fits) 0) (λ t. absurd (n (rw (s, t) refl))) (λ t. (rw (s, t) refl, rw (s, t) refl)))
     (λ s. (rw s refl, rw s refl))

@@ -1,4 +1,4 @@
--- The net: stations neighboursBy by cables, groups, routes, what each station knows of each group, and the channels.
+-- The net: stations joined by cables, groups, routes, what each station knows of each group, and the channels.
 use mathlib.Core.Bool.{Bool, cond, _&&_}
 use mathlib.Core.List.{List, [], _∷_, _++_}
 use Prim.Native.Nat.{ℕ, zero, suc}
