@@ -1,6 +1,6 @@
 /* Kepalumbi: the bench model of a talkback net, for a rig's host in C.
  *
- * Five functions over numbers and byte buffers. Each is proved, on every length and every byte, to do what is said here.
+ * Nine functions over numbers and byte buffers. Each is proved, on every length and every byte, to do what is said here.
  *
  * A buffer is a pointer and a length. The pointer is not null, even for a buffer of no bytes, and that many bytes behind it
  * can be read, or written too where the pointer is not const. Buffers of one call do not overlap. Nothing is kept after a call,
@@ -10,7 +10,11 @@
  * in the next bytes. A refusal is its number with zeros for every other value, and it changes no byte of any buffer.
  * Where a call could be refused for several reasons, the one given is the first in the order named beside the function.
  *
- * The bytes of a plan, a net, a script, a reach list and a tally: docs/FORMATS.md.
+ * A net has two forms, of the same length. In the saved form the entries stand by group and then station, and byte 7, the mark, is
+ * 0; in the working form they stand by station and then group, and the mark is 1. All else is the same. Neither form passes for the
+ * other: a function for one form gives 1 to a net in the other. Below, net is in the saved form, and work in the working form.
+ *
+ * The bytes of a plan, a net in either form, a script, a reach list and a tally: docs/FORMATS.md.
  */
 #ifndef KEPALUMBI_H
 #define KEPALUMBI_H
@@ -25,7 +29,7 @@ extern "C" {
 /* The sizes, in bytes, that the model asks for. */
 enum {
     KEP_PLAN_BYTES = 112,
-    KEP_NET_BYTES = 15728,
+    KEP_NET_BYTES = 15728, /* in either form */
     KEP_LIST_BYTES = 48,   /* 16 entries of station, parent, depth */
     KEP_TALLY_BYTES = 20,  /* five counts of 4 bytes, big-endian */
     KEP_SCRIPT_BYTES_MOST = 16384,
@@ -41,7 +45,7 @@ enum {
 /* The outcomes. */
 enum {
     KEP_ACCEPTED = 0,
-    KEP_NET_NOT_WELL_SHAPED = 1, /* the net is not 15,728 bytes or not well shaped */
+    KEP_NET_NOT_WELL_SHAPED = 1, /* the net is not 15,728 bytes or not well shaped in the function's form */
     KEP_NO_SUCH_ACTION = 2,      /* the action number is 0 or above 9 */
     KEP_OPERAND = 3,             /* an operand is out of range, no neighbour where one is asked, a route's own station, or
                                   * unused and not zero */
@@ -62,8 +66,8 @@ enum {
 #define KEP_REACHED(r) ((r) >> 8 & 255u) /* of kep_call */
 #define KEP_COPIES(r) ((r) >> 16 & 255u) /* of kep_call */
 
-/* A fresh net from a plan: the plan's groups and cables; routes and parents nil; members, clocks, children, waiting and
- * channels zero. What the buffer held before does not matter. Refusals: 10 (net_len), then 9 (the plan). */
+/* A fresh net from a plan, in the saved form: the plan's groups and cables; routes and parents nil; members, clocks, children,
+ * waiting and channels zero. What the buffer held before does not matter. Refusals: 10 (net_len), then 9 (the plan). */
 uint32_t kep_fresh(const uint8_t *plan, size_t plan_len, uint8_t *net, size_t net_len);
 
 /* One step of a net. Refusals: 1, 2, 3, 4, 5, 6. */
@@ -80,6 +84,22 @@ uint32_t kep_find(const uint8_t *net, size_t net_len, const uint8_t *name, size_
  * child first, a whole branch before the next: station, parent (255 for the root), depth; later entries 255 three times.
  * Refusals: 1, 3 (group or station), 10 (list_len), 8. */
 uint32_t kep_call(const uint8_t *net, size_t net_len, uint8_t group, uint8_t station, uint8_t *list, size_t list_len);
+
+/* The same net in the working form. What the buffer held before does not matter. Refusals: 1 (the net), then 10 (work_len). */
+uint32_t kep_to_working(const uint8_t *net, size_t net_len, uint8_t *work, size_t work_len);
+
+/* The same net in the saved form: of what kep_to_working wrote, the bytes that it was given. What the buffer held before does not
+ * matter. Refusals: 1 (work), then 10 (net_len). */
+uint32_t kep_to_saved(const uint8_t *work, size_t work_len, uint8_t *net, size_t net_len);
+
+/* One step of a net in the working form: the outcome is kep_step's of the same net, and so is the net, but for its form.
+ * Refusals: 1, 2, 3, 4, 5, 6. */
+uint32_t kep_working_step(uint8_t *work, size_t work_len, uint8_t action, uint8_t a, uint8_t b, uint8_t c);
+
+/* A run on a net in the working form: outcome and tally are kep_run's on the same net, and so is the net, but for its form.
+ * Refusals: 1, 10 (tally_len), 11, 12. */
+uint32_t kep_working_run(uint8_t *work, size_t work_len, const uint8_t *script, size_t script_len, uint8_t *tally,
+                         size_t tally_len);
 
 #ifdef __cplusplus
 }
