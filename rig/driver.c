@@ -1,4 +1,4 @@
-/* The library's five functions, served to the comparison: requests come on standard input, answers go to standard
+/* The library's nine functions, served to the comparison: requests come on standard input, answers go to standard
  * output.
  *
  * Numbers of the protocol are 4 bytes, lowest first. A request is a letter and its numbers, then its bytes:
@@ -8,6 +8,10 @@
  *   'R' net_len script_len tally_len    net, script, tally     kep_run
  *   'N' net_len name_len                net, name              kep_find
  *   'C' net_len group station list_len  net, list              kep_call
+ *   'W' net_len work_len                net, work              kep_to_working
+ *   'B' work_len net_len                work, net              kep_to_saved
+ *   's'                                 as 'S'                 kep_working_step
+ *   'r'                                 as 'R'                 kep_working_run
  *
  * A net_len of 'N' and 'C' may be 4294967295: then no net is sent, and the call is made on the net of the last 'N' or
  * 'C' that sent one. An answer is one byte, which says how the lent memory fared over the calls of the request
@@ -15,6 +19,7 @@
  * calls:
  *
  *   'F' result, net      'S' count results, net      'R' result, net, tally      'N' result      'C' result, list
+ *   'W' result, work     'B' result, net             's' and 'r' as 'S' and 'R'
  *
  * The first byte is 0 if all is well, 1 if a byte beside a buffer changed, 2 if a byte changed of a buffer lent for
  * reading. The program ends with status 0 at the end of the input, and with 1 if the input is not a row of whole
@@ -157,19 +162,25 @@ static void write_fared(int a, int b, int c)
     write_all(&fared, 1);
 }
 
-static void serve_fresh(void)
+/* Functions that are called alike: those that make a net of other bytes, and the steps and runs of both forms. */
+typedef uint32_t make_net(const uint8_t *from, size_t from_len, uint8_t *net, size_t net_len);
+typedef uint32_t step_net(uint8_t *net, size_t net_len, uint8_t action, uint8_t a, uint8_t b, uint8_t c);
+typedef uint32_t run_net(uint8_t *net, size_t net_len, const uint8_t *script, size_t script_len, uint8_t *tally,
+                         size_t tally_len);
+
+static void serve_made(make_net *make)
 {
-    size_t plan_len = read_number(), net_len = read_number();
-    struct lent plan = lend(plan_len), net = lend(net_len);
-    uint32_t result = kep_fresh(plan.bytes, plan.len, net.bytes, net.len);
-    write_fared(fared_read(&plan), fared_written(&net), WELL);
+    size_t from_len = read_number(), net_len = read_number();
+    struct lent from = lend(from_len), net = lend(net_len);
+    uint32_t result = make(from.bytes, from.len, net.bytes, net.len);
+    write_fared(fared_read(&from), fared_written(&net), WELL);
     write_number(result);
     write_all(net.bytes, net.len);
-    give_back(&plan);
+    give_back(&from);
     give_back(&net);
 }
 
-static void serve_steps(void)
+static void serve_steps(step_net *take)
 {
     size_t net_len = read_number(), count = read_number(), i;
     struct lent net = lend(net_len), steps = lend(count <= LEN_MOST / 4 ? 4 * count : LEN_MOST + 1);
@@ -177,7 +188,7 @@ static void serve_steps(void)
     int fared = WELL;
     for (i = 0; i < count; i++) {
         const uint8_t *step = steps.bytes + 4 * i;
-        results[i] = kep_step(net.bytes, net.len, step[0], step[1], step[2], step[3]);
+        results[i] = take(net.bytes, net.len, step[0], step[1], step[2], step[3]);
         if (fared == WELL)
             fared = fared_written(&net);
     }
@@ -190,11 +201,11 @@ static void serve_steps(void)
     give_back(&steps);
 }
 
-static void serve_run(void)
+static void serve_run(run_net *run)
 {
     size_t net_len = read_number(), script_len = read_number(), tally_len = read_number();
     struct lent net = lend(net_len), script = lend(script_len), tally = lend(tally_len);
-    uint32_t result = kep_run(net.bytes, net.len, script.bytes, script.len, tally.bytes, tally.len);
+    uint32_t result = run(net.bytes, net.len, script.bytes, script.len, tally.bytes, tally.len);
     write_fared(fared_written(&net), fared_read(&script), fared_written(&tally));
     write_number(result);
     write_all(net.bytes, net.len);
@@ -248,11 +259,15 @@ int main(void)
     int letter;
     while ((letter = getchar()) != EOF) {
         switch (letter) {
-        case 'F': serve_fresh(); break;
-        case 'S': serve_steps(); break;
-        case 'R': serve_run(); break;
+        case 'F': serve_made(kep_fresh); break;
+        case 'S': serve_steps(kep_step); break;
+        case 'R': serve_run(kep_run); break;
         case 'N': serve_find(); break;
         case 'C': serve_call(); break;
+        case 'W': serve_made(kep_to_working); break;
+        case 'B': serve_made(kep_to_saved); break;
+        case 's': serve_steps(kep_working_step); break;
+        case 'r': serve_run(kep_working_run); break;
         default: fail("a request opens with an unknown letter");
         }
         if (fflush(stdout) != 0)

@@ -1,6 +1,6 @@
-//! What the library's speed is measured against, on the bytes themselves: the test for well shaped, and two actions
-//! after it, `refresh` and `deliver`. In the test, flags are combined by `&`, there is no early exit, and every place
-//! is looked at, so that the time does not hang on what the net holds.
+//! What the library's speed is measured against, on the bytes themselves, in either form: the test for well shaped,
+//! and after it two actions, `refresh` and `deliver`, or the conversion. In the test, flags are combined by `&`, there
+//! is no early exit, and every place is looked at, so that the time does not hang on what the net holds.
 
 use rules::layout::*;
 
@@ -9,26 +9,32 @@ type NetBytes = [u8; NET_BYTES];
 /// The neighbours of each station, lowest bit first.
 type Masks = [u16; MOST_STATIONS];
 
-/// Whether these bytes are a well-shaped net.
-pub fn well_shaped(bytes: &[u8]) -> bool {
-    match <&NetBytes>::try_from(bytes) {
-        Ok(net) => {
-            let masks = masks(net);
-            head(net)
-                & groups(net)
-                & cables(net, &masks)
-                & routes(net, &masks)
-                & entries(net, &masks)
-                & channels(net, &masks)
-        }
-        Err(_) => false,
+/// Whether these bytes are a well-shaped net in this form.
+pub fn well_shaped(form: Form, bytes: &[u8]) -> bool {
+    match (form, <&NetBytes>::try_from(bytes)) {
+        // the form is known in each, so that neither asks for it at every entry
+        (Form::Saved, Ok(net)) => shaped(Form::Saved, net),
+        (Form::Working, Ok(net)) => shaped(Form::Working, net),
+        (_, Err(_)) => false,
     }
 }
 
-fn head(net: &NetBytes) -> bool {
-    let fixed = u64::from_le_bytes([net[0], net[1], net[2], net[3], net[4], 0, 0, net[7]]);
+#[inline(always)]
+fn shaped(form: Form, net: &NetBytes) -> bool {
+    let masks = masks(net);
+    head(form, net)
+        & groups(net)
+        & cables(net, &masks)
+        & routes(net, &masks)
+        & entries(form, net, &masks)
+        & channels(net, &masks)
+}
+
+#[inline(always)]
+fn head(form: Form, net: &NetBytes) -> bool {
+    let fixed = u64::from_le_bytes([net[0], net[1], net[2], net[3], net[4], 0, 0, net[MARK_AT]]);
     let (stations, groups) = (net[STATIONS_AT], net[GROUPS_AT]);
-    let right = u64::from_le_bytes([0, 0, 0x3d, 0x70, 1, 0, 0, 0]);
+    let right = u64::from_le_bytes([0, 0, 0x3d, 0x70, 1, 0, 0, mark(form)]);
     (fixed == right) & (stations.wrapping_sub(1) < 16) & (groups.wrapping_sub(1) < 4)
 }
 
@@ -102,13 +108,14 @@ fn routes(net: &NetBytes, masks: &Masks) -> bool {
     ok
 }
 
-fn entries(net: &NetBytes, masks: &Masks) -> bool {
+#[inline(always)]
+fn entries(form: Form, net: &NetBytes, masks: &Masks) -> bool {
     let (stations, groups) = (usize::from(net[STATIONS_AT]), usize::from(net[GROUPS_AT]));
     let mut ok = true;
     for k in 0..MOST_GROUPS {
         let root = usize::from(net[root_at(k)]);
         for (p, &mask) in masks.iter().enumerate() {
-            let at = entry_at(k, p);
+            let at = entry_at(form, k, p);
             let entry = &net[at..at + ENTRY_SIZE];
             let used = (k < groups) & (p < stations);
             ok &= (used & entry_shaped(entry, mask, p == root)) | (!used & is_zero(entry));
@@ -177,11 +184,11 @@ fn message_wrong(message: u64, groups: u64) -> u64 {
 // ---- two actions on the bytes, which make a round that ends where it began: refresh, deliver, deliver
 
 /// The test for well shaped and then refresh, on the bytes; false if it is refused.
-pub fn refresh(bytes: &mut [u8], group: u8, station: u8) -> bool {
-    if !well_shaped(bytes) | (group >= bytes[GROUPS_AT]) | (station >= bytes[STATIONS_AT]) {
+pub fn refresh(form: Form, bytes: &mut [u8], group: u8, station: u8) -> bool {
+    if !well_shaped(form, bytes) | (group >= bytes[GROUPS_AT]) | (station >= bytes[STATIONS_AT]) {
         return false;
     }
-    let at = entry_at(usize::from(group), usize::from(station));
+    let at = entry_at(form, usize::from(group), usize::from(station));
     let parent = bytes[at];
     let waiting = u16::from_be_bytes([bytes[at + 10], bytes[at + 11]]);
     if parent == NIL || waiting >> (parent & 15) & 1 == 1 {
@@ -195,8 +202,8 @@ pub fn refresh(bytes: &mut [u8], group: u8, station: u8) -> bool {
 }
 
 /// The test for well shaped and then deliver, on the bytes; false if it is refused.
-pub fn deliver(bytes: &mut [u8], from: u8, to: u8) -> bool {
-    if !well_shaped(bytes) | (from >= bytes[STATIONS_AT]) | (to >= bytes[STATIONS_AT]) {
+pub fn deliver(form: Form, bytes: &mut [u8], from: u8, to: u8) -> bool {
+    if !well_shaped(form, bytes) | (from >= bytes[STATIONS_AT]) | (to >= bytes[STATIONS_AT]) {
         return false;
     }
     let (p, q) = (usize::from(from), usize::from(to));
@@ -205,8 +212,9 @@ pub fn deliver(bytes: &mut [u8], from: u8, to: u8) -> bool {
         return false;
     }
     let message: [u8; MESSAGE_SIZE] = std::array::from_fn(|i| bytes[channel + 1 + i]);
+    let at = entry_at(form, usize::from(message[1]), q);
     let taken =
-        if message[0] == 1 { take_request(bytes, p, q, message[1]) } else { take_reply(bytes, p, q, message) };
+        if message[0] == 1 { take_request(bytes, p, q, message[1], at) } else { take_reply(bytes, p, message, at) };
     if taken {
         bytes[channel] -= 1;
         bytes.copy_within(channel + 1 + MESSAGE_SIZE..channel + CHANNEL_SIZE, channel + 1);
@@ -215,8 +223,8 @@ pub fn deliver(bytes: &mut [u8], from: u8, to: u8) -> bool {
     taken
 }
 
-fn take_request(bytes: &mut [u8], from: usize, to: usize, group: u8) -> bool {
-    let at = entry_at(usize::from(group), to);
+/// The receiver's entry stands at `at`.
+fn take_request(bytes: &mut [u8], from: usize, to: usize, group: u8, at: usize) -> bool {
     let connected = u8::from((bytes[at] != NIL) | (usize::from(bytes[root_at(usize::from(group))]) == to));
     let reply = [2, group, connected, bytes[at + 4], bytes[at + 5], bytes[at + 6], bytes[at + 7]];
     let sent = push(bytes, to, from, reply);
@@ -227,8 +235,8 @@ fn take_request(bytes: &mut [u8], from: usize, to: usize, group: u8) -> bool {
     sent
 }
 
-fn take_reply(bytes: &mut [u8], from: usize, to: usize, message: [u8; MESSAGE_SIZE]) -> bool {
-    let at = entry_at(usize::from(message[1]), to);
+/// The receiver's entry stands at `at`.
+fn take_reply(bytes: &mut [u8], from: usize, message: [u8; MESSAGE_SIZE], at: usize) -> bool {
     let waiting = u16::from_be_bytes([bytes[at + 10], bytes[at + 11]]) & !(1 << from);
     bytes[at + 10..at + 12].copy_from_slice(&waiting.to_be_bytes());
     // big-endian numbers of one length compare as their bytes do
@@ -251,12 +259,51 @@ fn push(bytes: &mut [u8], from: usize, to: usize, message: [u8; MESSAGE_SIZE]) -
     true
 }
 
+// ---- the conversion
+
+/// The test for well shaped and then the conversion into the other form; false if it is refused.
+pub fn convert(from: Form, bytes: &[u8], other: &mut [u8]) -> bool {
+    if !well_shaped(from, bytes) | (other.len() != NET_BYTES) {
+        return false;
+    }
+    other.copy_from_slice(bytes);
+    other[MARK_AT] = mark(from.other());
+    for k in 0..MOST_GROUPS {
+        for p in 0..MOST_STATIONS {
+            let (here, there) = (entry_at(from, k, p), entry_at(from.other(), k, p));
+            other[there..there + ENTRY_SIZE].copy_from_slice(&bytes[here..here + ENTRY_SIZE]);
+        }
+    }
+    true
+}
+
 #[cfg(test)]
 mod tests {
     use super::*;
     use crate::make;
     use crate::random::Random;
+    use rules::net::Net;
+    use rules::step::Step;
     use rules::{face, shape};
+
+    const FORMS: [Form; 2] = [Form::Saved, Form::Working];
+
+    /// Whether both accept the step; and then they leave the same bytes.
+    fn same_step(form: Form, net: &Net, one: Step) -> bool {
+        let mut plain = shape::encode(form, net);
+        let mut quick = plain.clone();
+        let ok = match one[0] {
+            3 => refresh(form, &mut quick, one[1], one[2]),
+            _ => deliver(form, &mut quick, one[1], one[2]),
+        };
+        let result = match form {
+            Form::Saved => face::step(&mut plain, one),
+            Form::Working => face::working_step(&mut plain, one),
+        };
+        assert_eq!(ok, result == 0);
+        assert!(plain == quick);
+        ok
+    }
 
     #[test]
     fn refresh_and_deliver_are_those_of_the_model() {
@@ -267,17 +314,25 @@ mod tests {
             for action in [3, 4] {
                 let (group, station) = (random.below(net.plan.groups.len()), random.below(net.plan.stations));
                 let one = make::likely_operands(&mut random, &net, action, group, station);
-                let mut plain = shape::encode(&net);
-                let mut quick = plain.clone();
-                let ok = match action {
-                    3 => refresh(&mut quick, one[1], one[2]),
-                    _ => deliver(&mut quick, one[1], one[2]),
-                };
-                assert_eq!(ok, face::step(&mut plain, one) == 0);
-                assert!(plain == quick);
-                accepted[usize::from(action) - 3] += u32::from(ok);
+                let ok = FORMS.map(|form| same_step(form, &net, one));
+                assert_eq!(ok[0], ok[1]);
+                accepted[usize::from(action) - 3] += u32::from(ok[0]);
             }
         }
         assert!(accepted[0] > 200 && accepted[1] > 200, "{accepted:?}");
+    }
+
+    #[test]
+    fn the_conversion_is_that_of_the_model() {
+        let mut random = Random::new(7);
+        for _ in 0..500 {
+            let net = make::shaped(&mut random);
+            for form in FORMS {
+                let mut other = random.bytes(NET_BYTES);
+                assert!(convert(form, &shape::encode(form, &net), &mut other));
+                assert!(other == shape::encode(form.other(), &net));
+                assert!(!convert(form, &shape::encode(form.other(), &net), &mut other));
+            }
+        }
     }
 }

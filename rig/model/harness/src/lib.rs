@@ -1,6 +1,7 @@
 //! What holds the library and the bench program against the model (`rules`): random nets, plans and steps, damage,
-//! and the driver; and what to measure the library by: a faster test for well shaped, and two actions.
+//! and the driver; and what to measure the library by: a faster test for well shaped, two actions and the conversion.
 
+pub mod breaches;
 pub mod damage;
 pub mod fast;
 pub mod make;

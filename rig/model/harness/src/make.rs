@@ -332,7 +332,9 @@ mod tests {
         for _ in 0..300 {
             assert!(Plan::decode(&plan(&mut random).encode()).is_some());
             for net in [grown(&mut random), shaped(&mut random), treed(&mut random)] {
-                assert_eq!(decode(&encode(&net)), Some(net));
+                for form in [Form::Saved, Form::Working] {
+                    assert_eq!(decode(form, &encode(form, &net)).as_ref(), Some(&net));
+                }
             }
         }
     }
@@ -343,15 +345,16 @@ mod tests {
         let mut counts = [0, 0];
         for case in 0..6_000 {
             let net = if case % 2 == 0 { grown(&mut random) } else { shaped(&mut random) };
-            let mut bytes = encode(&net);
-            assert!(fast::well_shaped(&bytes));
+            let form = random.pick(&[Form::Saved, Form::Working]);
+            let mut bytes = encode(form, &net);
+            assert!(fast::well_shaped(form, &bytes) && !fast::well_shaped(form.other(), &bytes));
             damage(&mut random, &mut bytes);
-            let plain = decode(&bytes).is_some();
-            assert_eq!(fast::well_shaped(&bytes), plain);
+            let plain = decode(form, &bytes).is_some();
+            assert_eq!(fast::well_shaped(form, &bytes), plain);
             counts[usize::from(plain)] += 1;
         }
         assert!(counts[0] > 500 && counts[1] > 200, "{counts:?}");
-        assert!(!fast::well_shaped(&[]) && !fast::well_shaped(&[0; NET_BYTES + 1]));
+        assert!(!fast::well_shaped(Form::Saved, &[]) && !fast::well_shaped(Form::Saved, &[0; NET_BYTES + 1]));
     }
 
     #[test]

@@ -1,6 +1,7 @@
 //! The library, served by the driver: starts the driver, sends it requests and reads its answers. The protocol is
 //! written down at the top of driver.c.
 
+use rules::layout::Form;
 use rules::step::Step;
 use std::io::{self, BufReader, Read, Write};
 use std::process::{Child, ChildStdin, ChildStdout, Command, Stdio};
@@ -21,6 +22,14 @@ pub struct Answer {
 pub struct Lent {
     pub what: &'static str,
     pub bytes: Vec<u8>,
+}
+
+/// What a net in this form is lent as.
+pub fn lent_as(form: Form) -> &'static str {
+    match form {
+        Form::Saved => "net",
+        Form::Working => "work",
+    }
 }
 
 impl Answer {
@@ -50,15 +59,24 @@ impl Driver {
         self.answer(1, &[("net", net.len())])
     }
 
-    pub fn steps(&mut self, net: &[u8], steps: &[Step]) -> io::Result<Answer> {
-        self.send(b'S', &[net.len() as u32, steps.len() as u32], &[net, &steps.concat()])?;
-        self.answer(steps.len(), &[("net", net.len())])
+    pub fn steps(&mut self, form: Form, net: &[u8], steps: &[Step]) -> io::Result<Answer> {
+        let letter = if form == Form::Saved { b'S' } else { b's' };
+        self.send(letter, &[net.len() as u32, steps.len() as u32], &[net, &steps.concat()])?;
+        self.answer(steps.len(), &[(lent_as(form), net.len())])
     }
 
-    pub fn run(&mut self, net: &[u8], script: &[u8], tally: &[u8]) -> io::Result<Answer> {
+    pub fn run(&mut self, form: Form, net: &[u8], script: &[u8], tally: &[u8]) -> io::Result<Answer> {
+        let letter = if form == Form::Saved { b'R' } else { b'r' };
         let lengths = [net.len() as u32, script.len() as u32, tally.len() as u32];
-        self.send(b'R', &lengths, &[net, script, tally])?;
-        self.answer(1, &[("net", net.len()), ("tally", tally.len())])
+        self.send(letter, &lengths, &[net, script, tally])?;
+        self.answer(1, &[(lent_as(form), net.len()), ("tally", tally.len())])
+    }
+
+    /// Into the other form.
+    pub fn convert(&mut self, from: Form, net: &[u8], other: &[u8]) -> io::Result<Answer> {
+        let letter = if from == Form::Saved { b'W' } else { b'B' };
+        self.send(letter, &[net.len() as u32, other.len() as u32], &[net, other])?;
+        self.answer(1, &[(lent_as(from.other()), other.len())])
     }
 
     /// No net means the one sent to `find` or `call` before.

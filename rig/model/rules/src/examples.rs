@@ -11,7 +11,7 @@ use crate::shape::{decode, encode};
 use crate::step::{step, Step};
 
 /// Stations in a line, one group for each name, all with root 0.
-fn line(stations: usize, names: &[&[u8]]) -> Plan {
+pub fn line(stations: usize, names: &[&[u8]]) -> Plan {
     let mut neighbours = vec![Stations::default(); stations];
     for p in 1..stations {
         neighbours[p].add(p - 1);
@@ -42,7 +42,7 @@ fn take_all(net: &mut Net, steps: &[Step]) {
     }
 }
 
-const LISTING: [Step; 13] = [
+pub const LISTING: [Step; 13] = [
     [9, 2, 0, 1],
     [9, 1, 0, 0],
     [1, 0, 0, 0],
@@ -65,7 +65,7 @@ fn the_listing() {
     let mut tally = vec![9; TALLY_BYTES];
     assert_eq!(face::run(&mut bytes, &LISTING.concat(), &mut tally), 0);
     assert_eq!(tally, [0, 0, 0, 13, 0, 0, 0, 0, 0, 0, 0, 6, 0, 0, 0, 6, 0, 0, 0, 0]);
-    let net = decode(&bytes).unwrap();
+    let net = decode(Form::Saved, &bytes).unwrap();
     assert_eq!(net.waiting_messages(), 0);
     let lines: Vec<_> = net.entries[0].iter().map(|e| (e.parent, e.clock, e.member, e.children.0)).collect();
     assert_eq!(lines, [(None, 1, false, 2), (Some(0), 1, false, 4), (Some(1), 1, true, 0)]);
@@ -160,7 +160,7 @@ fn a_child_is_not_dropped_while_a_reply_is_on_its_way() {
 
 #[test]
 fn sister_names_find_themselves() {
-    let bytes = encode(&crate::fresh::fresh(line(2, &[b"H21", b"H210"])));
+    let bytes = encode(Form::Saved, &crate::fresh::fresh(line(2, &[b"H21", b"H210"])));
     assert_eq!(face::find(&bytes, b"H21"), 0);
     assert_eq!(face::find(&bytes, b"H210"), 1 << 8);
     for name in [&b"H2"[..], b"", b"H2100", b"H21\0", &[b'H'; 17]] {
@@ -170,7 +170,7 @@ fn sister_names_find_themselves() {
 
 #[test]
 fn scripts_of_every_kind_of_length() {
-    let bytes = encode(&fresh_line(2));
+    let bytes = encode(Form::Saved, &fresh_line(2));
     let result = |length: usize, size: usize| {
         let (mut net, mut tally) = (bytes.clone(), vec![9; size]);
         let result = face::run(&mut net, &vec![0; length], &mut tally);
@@ -196,7 +196,7 @@ fn asking_at_the_root_and_past_the_last_station() {
 
 #[test]
 fn a_sole_station_calls() {
-    let bytes = encode(&fresh_line(1));
+    let bytes = encode(Form::Saved, &fresh_line(1));
     let mut list = vec![0; LIST_BYTES];
     assert_eq!(face::call(&bytes, 0, 0, &mut list), 1 << 8);
     assert_eq!(list[..6], [0, 255, 0, 255, 255, 255]);
@@ -229,7 +229,7 @@ fn a_call_goes_round_the_agreed_tree_only() {
     net.entries[0][2].children.remove(3);
     assert_eq!(flood(&net, 0, 0), Flood { reached: 3, copies: 2 });
     assert_eq!(reach_list(&net, 0).len(), 3);
-    let bytes = encode(&net);
+    let bytes = encode(Form::Saved, &net);
     let mut list = vec![0; LIST_BYTES];
     assert_eq!(face::call(&bytes, 0, 4, &mut list), u32::from(NOT_ON_THE_TREE));
     assert_eq!(face::call(&bytes, 0, 4, &mut list[..47]), u32::from(SIZE));
@@ -249,6 +249,6 @@ fn messages_of_other_groups_keep_their_order() {
     assert_eq!(net.channels[0][1], [Message::Request { group: 1 }, Message::Request { group: 0 }]);
     assert_eq!(outcome(&mut net, [5, 0, 1, 2]), NOT_ENABLED);
     assert_eq!(outcome(&mut net, [5, 0, 1, 8]), OPERAND);
-    let bytes = encode(&net);
+    let bytes = encode(Form::Saved, &net);
     assert!(bytes[message_at(0, 1, 2)..channel_at(0, 2)].iter().all(|&byte| byte == 0));
 }

@@ -2,7 +2,7 @@
 //! library that is held against it: bytes are decoded into plain structures, the rules work on those, and the
 //! result is encoded back.
 //!
-//! `face` has the five functions of the C face over byte slices, with the same results, and `listing` what the bench
+//! `face` has the nine functions of the C face over byte slices, with the same results, and `listing` what the bench
 //! program prints. The other modules are the rules.
 
 pub mod call;

@@ -65,7 +65,7 @@ impl Plan {
     }
 
     /// Reads the places in use at the front of a plan or a net, and holds them to the rules.
-    /// Whether length, version, padding and unused places are as they must be is left to the caller.
+    /// Whether length, version, byte 7, padding and unused places are as they must be is left to the caller.
     pub fn read(bytes: &[u8]) -> Option<Plan> {
         let stations = usize::from(bytes[STATIONS_AT]);
         let groups = usize::from(bytes[GROUPS_AT]);
@@ -80,7 +80,8 @@ impl Plan {
         (plan.roots_are_stations() && plan.names_are_distinct() && plan.cables_are_sound()).then_some(plan)
     }
 
-    /// Writes the front of a plan or a net into bytes that are all zero; their number is the length written.
+    /// Writes the front of a plan or a net into bytes that are all zero; their number is the length written. Byte 7
+    /// stays zero.
     pub fn write(&self, bytes: &mut [u8]) {
         let length = bytes.len() as u32;
         bytes[..4].copy_from_slice(&length.to_be_bytes());

@@ -7,20 +7,21 @@ use crate::plan::{read_stations, write_stations, Plan, Stations};
 const REQUEST: u8 = 1;
 const REPLY: u8 = 2;
 
-/// The net of these bytes, if they are 15,728 and well shaped.
-pub fn decode(bytes: &[u8]) -> Option<Net> {
+/// The net of these bytes, if they are 15,728 and well shaped in this form.
+pub fn decode(form: Form, bytes: &[u8]) -> Option<Net> {
     if bytes.len() != NET_BYTES {
         return None;
     }
-    let net = read_net(bytes)?;
-    // What is written back has the one right length, version, padding and zeros in all unused places.
-    (encode(&net) == bytes).then_some(net)
+    let net = read_net(form, bytes)?;
+    // What is written back has the one right length, version, mark, padding and zeros in all unused places.
+    (encode(form, &net) == bytes).then_some(net)
 }
 
-pub fn encode(net: &Net) -> Vec<u8> {
+pub fn encode(form: Form, net: &Net) -> Vec<u8> {
     let mut bytes = vec![0; NET_BYTES];
     let stations = net.plan.stations;
     net.plan.write(&mut bytes);
+    bytes[MARK_AT] = mark(form);
     for p in 0..stations {
         for q in 0..stations {
             bytes[route_at(p, q)] = nil_or(net.routes[p][q]);
@@ -29,17 +30,18 @@ pub fn encode(net: &Net) -> Vec<u8> {
     }
     for (k, entries) in net.entries.iter().enumerate() {
         for (p, entry) in entries.iter().enumerate() {
-            write_entry(entry, &mut bytes[entry_at(k, p)..]);
+            write_entry(entry, &mut bytes[entry_at(form, k, p)..]);
         }
     }
     bytes
 }
 
 /// Reads the places in use, and holds them to the rules.
-fn read_net(bytes: &[u8]) -> Option<Net> {
+fn read_net(form: Form, bytes: &[u8]) -> Option<Net> {
     let plan = Plan::read(bytes)?;
     let routes = table(plan.stations, plan.stations, |p, d| read_route(&plan, p, d, bytes[route_at(p, d)]))?;
-    let entries = table(plan.groups.len(), plan.stations, |k, p| read_entry(&plan, k, p, &bytes[entry_at(k, p)..]))?;
+    let entry = |k, p| read_entry(&plan, k, p, &bytes[entry_at(form, k, p)..]);
+    let entries = table(plan.groups.len(), plan.stations, entry)?;
     let channels = table(plan.stations, plan.stations, |p, q| read_channel(&plan, p, q, &bytes[channel_at(p, q)..]))?;
     Some(Net { plan, routes, entries, channels })
 }

@@ -4,6 +4,7 @@
 use harness::make;
 use harness::random::Random;
 use rules::face;
+use rules::layout::Form;
 use rules::shape::encode;
 use std::process::ExitCode;
 
@@ -64,7 +65,7 @@ fn one(random: &mut Random, kind: Kind, cases: &mut Vec<u8>, lines: &mut String)
     let group = random.below(before.plan.groups.len());
     let mut station = random.below(before.plan.stations);
     let mut script = make::steps(random, &mut before.clone(), 40).concat();
-    let mut net = encode(&before);
+    let mut net = encode(Form::Saved, &before);
     let mut entries = 16;
     match kind {
         Kind::Plain => {}

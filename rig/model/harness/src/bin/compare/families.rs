@@ -1,9 +1,13 @@
 //! The cases in which the functions are called.
 
+use crate::forms::{both_forms, conversions, one_for_the_other};
 use crate::functions::{Compare, Family};
-use harness::damage::{damage, damage_plan, BREACHES};
+use crate::outcomes::name_in;
+use harness::breaches::BREACHES;
+use harness::damage::{damage, damage_plan};
 use harness::make;
 use harness::random::Random;
+use rules::layout::Form::{Saved, Working};
 use rules::layout::*;
 use rules::net::Net;
 use rules::plan::{Group, Plan, Stations};
@@ -17,15 +21,25 @@ pub const FAMILIES: &[Family] = &[
     Family { name: "fresh", number: 2, cases: 6_000, one: fresh_nets },
     Family { name: "sentences of a plan", number: 3, cases: 100, one: plan_sentences },
     Family { name: "find", number: 4, cases: 1_500, one: find_names },
-    Family { name: "steps of reachable nets", number: 5, cases: 1_000, one: reachable_steps },
+    Family { name: "steps of reachable nets", number: 5, cases: 1_000, one: |c| reachable_steps(c, Saved) },
     Family { name: "single steps of reachable nets", number: 6, cases: 8_000, one: reachable_step },
-    Family { name: "steps of well-shaped nets", number: 7, cases: 700, one: shaped_steps },
-    Family { name: "single steps of well-shaped nets", number: 8, cases: 20_000, one: shaped_step },
-    Family { name: "run", number: 9, cases: 3_000, one: runs },
+    Family { name: "steps of well-shaped nets", number: 7, cases: 700, one: |c| shaped_steps(c, Saved) },
+    Family { name: "single steps of well-shaped nets", number: 8, cases: 20_000, one: |c| shaped_step(c, Saved) },
+    Family { name: "run", number: 9, cases: 3_000, one: |c| runs(c, Saved) },
     Family { name: "call", number: 10, cases: 1_500, one: calls },
-    Family { name: "damaged nets", number: 11, cases: 16_000, one: damaged_nets },
-    Family { name: "sentences of a net", number: 12, cases: 200, one: net_sentences },
-    Family { name: "lengths of a net", number: 13, cases: 1_500, one: net_lengths },
+    Family { name: "damaged nets", number: 11, cases: 20_000, one: |c| damaged_nets(c, Saved) },
+    Family { name: "sentences of a net", number: 12, cases: 200, one: |c| net_sentences(c, Saved) },
+    Family { name: "lengths of a net", number: 13, cases: 1_500, one: |c| net_lengths(c, Saved) },
+    Family { name: "conversions", number: 14, cases: 3_000, one: conversions },
+    Family { name: "reachable nets, working form", number: 15, cases: 500, one: |c| reachable_steps(c, Working) },
+    Family { name: "well-shaped nets, working form", number: 16, cases: 400, one: |c| shaped_steps(c, Working) },
+    Family { name: "single steps, working form", number: 17, cases: 10_000, one: |c| shaped_step(c, Working) },
+    Family { name: "run, working form", number: 18, cases: 1_500, one: |c| runs(c, Working) },
+    Family { name: "damaged nets, working form", number: 19, cases: 10_000, one: |c| damaged_nets(c, Working) },
+    Family { name: "sentences of a net, working form", number: 20, cases: 150, one: |c| net_sentences(c, Working) },
+    Family { name: "lengths of a net, working form", number: 21, cases: 1_000, one: |c| net_lengths(c, Working) },
+    Family { name: "one form for the other", number: 22, cases: 5_000, one: one_for_the_other },
+    Family { name: "both forms", number: 23, cases: 1_500, one: both_forms },
 ];
 
 fn line(stations: usize, names: &[&[u8]]) -> Plan {
@@ -38,50 +52,54 @@ fn line(stations: usize, names: &[&[u8]]) -> Plan {
     Plan { stations, groups, neighbours }
 }
 
+const LISTING: [Step; 13] = [
+    [9, 2, 0, 1],
+    [9, 1, 0, 0],
+    [1, 0, 0, 0],
+    [8, 0, 2, 1],
+    [2, 0, 2, 0],
+    [4, 2, 1, 0],
+    [4, 1, 2, 0],
+    [2, 0, 1, 0],
+    [4, 1, 0, 0],
+    [4, 0, 1, 0],
+    [2, 0, 2, 0],
+    [4, 2, 1, 0],
+    [4, 1, 2, 0],
+];
+
 /// The listing and the other examples of the requirements that need nothing special in the net.
 fn examples(c: &mut Compare) -> io::Result<()> {
-    let listing: [Step; 13] = [
-        [9, 2, 0, 1],
-        [9, 1, 0, 0],
-        [1, 0, 0, 0],
-        [8, 0, 2, 1],
-        [2, 0, 2, 0],
-        [4, 2, 1, 0],
-        [4, 1, 2, 0],
-        [2, 0, 1, 0],
-        [4, 1, 0, 0],
-        [4, 0, 1, 0],
-        [2, 0, 2, 0],
-        [4, 2, 1, 0],
-        [4, 1, 2, 0],
-    ];
     let three = line(3, &[b"A"]);
     c.fresh(&three.encode(), &[7; NET_BYTES])?;
     let net = fresh::fresh(three);
-    let bytes = encode(&net);
-    c.steps(&net, &listing)?;
-    c.run(&bytes, &listing.concat(), &[9; TALLY_BYTES])?;
-    c.run(&bytes, &[], &[9; TALLY_BYTES])?;
-    c.run(&bytes, &[1, 0, 0], &[9; TALLY_BYTES])?;
-    c.run(&bytes, &[1, 0, 0, 0].repeat(4096), &[9; TALLY_BYTES])?;
-    c.run(&bytes, &[1, 0, 0, 0].repeat(4097), &[9; TALLY_BYTES])?;
-    let mut after = bytes;
-    face::run(&mut after, &listing.concat(), &mut [0; TALLY_BYTES]);
+    let mut clock = fresh::fresh(line(1, &[b"A"]));
+    clock.entries[0][0].clock = u32::MAX - 1;
+    let tick = [1, 0, 0, 0];
+    for form in [Saved, Working] {
+        let bytes = encode(form, &net);
+        c.steps(form, &net, &LISTING)?;
+        for script in [LISTING.concat(), vec![], vec![1, 0, 0], tick.repeat(4096), tick.repeat(4097)] {
+            c.run(form, &bytes, &script, &[9; TALLY_BYTES])?;
+        }
+        c.convert(form, &bytes, &[7; NET_BYTES])?;
+        c.steps(form, &clock, &[tick, tick])?;
+    }
+    let mut after = encode(Saved, &net);
+    face::run(&mut after, &LISTING.concat(), &mut [0; TALLY_BYTES]);
     for station in 0..4 {
         c.call(&after, false, 0, station, &[7; LIST_BYTES])?;
     }
-    c.call(&encode(&fresh::fresh(line(1, &[b"A"]))), false, 0, 0, &[7; LIST_BYTES])?;
-    let sisters = encode(&fresh::fresh(line(2, &[b"H21", b"H210"])));
+    c.call(&encode(Saved, &fresh::fresh(line(1, &[b"A"]))), false, 0, 0, &[7; LIST_BYTES])?;
+    let sisters = encode(Saved, &fresh::fresh(line(2, &[b"H21", b"H210"])));
     for name in [&b"H21"[..], b"H210", b"H2", b""] {
         c.find(&sisters, false, name)?;
     }
-    let mut clock = fresh::fresh(line(1, &[b"A"]));
-    clock.entries[0][0].clock = u32::MAX - 1;
-    c.steps(&clock, &[[1, 0, 0, 0], [1, 0, 0, 0]])
+    Ok(())
 }
 
 const OTHER_PLAN_LENGTHS: [usize; 8] = [0, 1, 4, 111, 113, 224, 15_727, 15_728];
-const OTHER_NET_LENGTHS: [usize; 14] =
+pub const OTHER_NET_LENGTHS: [usize; 14] =
     [0, 1, 4, 8, 80, 111, 112, 113, 368, 1136, 15_727, 15_729, 20_000, 2 * NET_BYTES];
 
 /// Cut, or made longer by zeros or by anything; in half of the cases the length at the front is what it has become.
@@ -98,7 +116,7 @@ fn of_length(random: &mut Random, bytes: &[u8], length: usize) -> Vec<u8> {
 }
 
 /// What a buffer may hold before it is written.
-fn stale(random: &mut Random, length: usize) -> Vec<u8> {
+pub fn stale(random: &mut Random, length: usize) -> Vec<u8> {
     match random.below(3) {
         0 => vec![0; length],
         1 => vec![255; length],
@@ -132,7 +150,7 @@ fn plan_sentences(c: &mut Compare) -> io::Result<()> {
     Ok(())
 }
 
-fn some_net(random: &mut Random) -> Net {
+pub fn some_net(random: &mut Random) -> Net {
     match random.below(5) {
         0 | 1 => make::grown(random),
         2 | 3 => make::shaped(random),
@@ -142,7 +160,7 @@ fn some_net(random: &mut Random) -> Net {
 
 fn find_names(c: &mut Compare) -> io::Result<()> {
     let net = some_net(&mut c.random);
-    let bytes = encode(&net);
+    let bytes = encode(Saved, &net);
     let mut names = vec![Vec::new(), c.random.bytes(1), c.random.bytes(16), c.random.bytes(17), vec![0; 17]];
     for group in &net.plan.groups {
         names.extend(names_like(&mut c.random, &group.name));
@@ -168,27 +186,27 @@ fn names_like(random: &mut Random, name: &[u8]) -> Vec<Vec<u8>> {
     vec![name.to_vec(), part, name[1..].to_vec(), other, padded, longer, past, counted, name.repeat(17)]
 }
 
-fn reachable_steps(c: &mut Compare) -> io::Result<()> {
+fn reachable_steps(c: &mut Compare, form: Form) -> io::Result<()> {
     let net = make::grown(&mut c.random);
     let count = c.random.pick(&[0, 1, 20, 100, 200]);
     let steps = make::steps(&mut c.random, &mut net.clone(), count);
-    c.steps(&net, &steps)
+    c.steps(form, &net, &steps)
 }
 
 fn reachable_step(c: &mut Compare) -> io::Result<()> {
     let net = make::grown(&mut c.random);
     let one = make::any_step(&mut c.random, &net);
-    c.step(&encode(&net), one)
+    c.step(Saved, &encode(Saved, &net), one)
 }
 
-fn shaped_steps(c: &mut Compare) -> io::Result<()> {
+fn shaped_steps(c: &mut Compare, form: Form) -> io::Result<()> {
     let net = make::shaped(&mut c.random);
     let count = c.random.pick(&[5, 50, 150]);
     let steps = make::steps(&mut c.random, &mut net.clone(), count);
-    c.steps(&net, &steps)
+    c.steps(form, &net, &steps)
 }
 
-fn shaped_step(c: &mut Compare) -> io::Result<()> {
+fn shaped_step(c: &mut Compare, form: Form) -> io::Result<()> {
     let net = make::shaped(&mut c.random);
     let one = match c.random.below(10) {
         0 => make::wild_step(&mut c.random, &net),
@@ -200,10 +218,10 @@ fn shaped_step(c: &mut Compare) -> io::Result<()> {
             make::likely_operands(&mut c.random, &net, action, group, station)
         }
     };
-    c.step(&encode(&net), one)
+    c.step(form, &encode(form, &net), one)
 }
 
-fn runs(c: &mut Compare) -> io::Result<()> {
+fn runs(c: &mut Compare, form: Form) -> io::Result<()> {
     let net = some_net(&mut c.random);
     let length = c.random.pick(&[0, 1, 2, 3, 4, 5, 4, 8, 40, 402, 800, 1600]);
     let length =
@@ -216,18 +234,18 @@ fn runs(c: &mut Compare) -> io::Result<()> {
     script.truncate(length);
     let size = if c.random.chance(8) { c.random.pick(&[0, 1, 16, 19, 21, 40]) } else { TALLY_BYTES };
     let tally = stale(&mut c.random, size);
-    let mut bytes = encode(&net);
+    let mut bytes = encode(form, &net);
     if c.random.chance(8) {
         damage(&mut c.random, &mut bytes);
     }
-    c.run(&bytes, &script, &tally)
+    c.run(form, &bytes, &script, &tally)
 }
 
 /// Every station of every group calls; then stations and groups out of range, and lists of other sizes.
 fn calls(c: &mut Compare) -> io::Result<()> {
     let net = if c.random.chance(50) { make::treed(&mut c.random) } else { some_net(&mut c.random) };
     let (stations, groups) = (net.plan.stations as u8, net.plan.groups.len() as u8);
-    let bytes = encode(&net);
+    let bytes = encode(Saved, &net);
     let list = stale(&mut c.random, LIST_BYTES);
     let mut sent = false;
     for group in 0..groups {
@@ -246,22 +264,27 @@ fn calls(c: &mut Compare) -> io::Result<()> {
     Ok(())
 }
 
-/// Each function in turn on a net that may not be well shaped.
-fn any_function(c: &mut Compare, plan: &Plan, bytes: &[u8]) -> io::Result<()> {
-    match c.random.below(4) {
+/// A function for nets in this form, on bytes that may not be one.
+pub fn any_function(c: &mut Compare, form: Form, plan: &Plan, bytes: &[u8]) -> io::Result<()> {
+    // find and call are for the saved form alone
+    match c.random.below(if form == Saved { 5 } else { 3 }) {
         0 => {
-            let net = decode(bytes).unwrap_or_else(|| fresh::fresh(plan.clone()));
+            let net = decode(form, bytes).unwrap_or_else(|| fresh::fresh(plan.clone()));
             let one = make::any_step(&mut c.random, &net);
-            c.step(bytes, one)
+            c.step(form, bytes, one)
         }
         1 => {
-            let net = decode(bytes).unwrap_or_else(|| fresh::fresh(plan.clone()));
+            let net = decode(form, bytes).unwrap_or_else(|| fresh::fresh(plan.clone()));
             let mut script = make::steps(&mut c.random, &mut net.clone(), 6).concat();
             script.truncate(c.random.pick(&[24, 24, 24, 23, 0]));
             let size = c.random.pick(&[TALLY_BYTES, TALLY_BYTES, TALLY_BYTES, 19]);
-            c.run(bytes, &script, &vec![1; size])
+            c.run(form, bytes, &script, &vec![1; size])
         }
         2 => {
+            let size = c.random.pick(&[NET_BYTES, NET_BYTES, NET_BYTES, NET_BYTES - 1]);
+            c.convert(form, bytes, &vec![1; size])
+        }
+        3 => {
             let name = plan.groups[c.random.below(plan.groups.len())].name.clone();
             c.find(bytes, false, &name)
         }
@@ -273,33 +296,36 @@ fn any_function(c: &mut Compare, plan: &Plan, bytes: &[u8]) -> io::Result<()> {
     }
 }
 
-fn damaged_nets(c: &mut Compare) -> io::Result<()> {
+fn damaged_nets(c: &mut Compare, form: Form) -> io::Result<()> {
     let net = some_net(&mut c.random);
-    let mut bytes = encode(&net);
+    let mut bytes = encode(form, &net);
     damage(&mut c.random, &mut bytes);
-    any_function(c, &net.plan, &bytes)
+    any_function(c, form, &net.plan, &bytes)
 }
 
 /// Every sentence of "well shaped" is broken by itself; the model must see that, too.
-fn net_sentences(c: &mut Compare) -> io::Result<()> {
+fn net_sentences(c: &mut Compare, form: Form) -> io::Result<()> {
     for breach in BREACHES {
         let net = make::shaped(&mut c.random);
-        let mut bytes = encode(&net);
+        let mut bytes = encode(form, &net);
         if (breach.make)(&mut c.random, &net.plan, &mut bytes) {
-            if decode(&bytes).is_some() {
-                println!("compare: the model lets a net pass that breaks the sentence: {}", breach.sentence);
+            if decode(form, &bytes).is_some() {
+                println!(
+                    "compare: the model lets a net pass that breaks the sentence: {}",
+                    name_in(form, breach.sentence)
+                );
                 c.differences += 1;
             }
-            *c.broken.entry(breach.sentence).or_insert(0) += 1;
-            any_function(c, &net.plan, &bytes)?;
+            *c.broken.entry(name_in(form, breach.sentence)).or_insert(0) += 1;
+            any_function(c, form, &net.plan, &bytes)?;
         }
     }
     Ok(())
 }
 
-fn net_lengths(c: &mut Compare) -> io::Result<()> {
+fn net_lengths(c: &mut Compare, form: Form) -> io::Result<()> {
     let net = some_net(&mut c.random);
     let length = c.random.pick(&OTHER_NET_LENGTHS);
-    let bytes = of_length(&mut c.random, &encode(&net), length);
-    any_function(c, &net.plan, &bytes)
+    let bytes = of_length(&mut c.random, &encode(form, &net), length);
+    any_function(c, form, &net.plan, &bytes)
 }

@@ -1,11 +1,13 @@
 //! The library, served by the driver, held against the model: each function, called as the families have it.
 
 use crate::families::FAMILIES;
+use crate::outcomes::{conversion, name_in, Outcomes, HITS_WANTED};
 use crate::Score;
-use harness::damage::BREACHES;
+use harness::breaches::BREACHES;
 use harness::parts::part_at;
 use harness::random::Random;
-use harness::served::{Answer, Driver, Lent};
+use harness::served::{lent_as, Answer, Driver, Lent};
+use rules::layout::{Form, NET_BYTES, TALLY_BYTES};
 use rules::net::Net;
 use rules::shape::encode;
 use rules::step::Step;
@@ -17,28 +19,8 @@ use std::io;
 const MOST_PRINTED: usize = 5;
 const MOST_BYTES_PRINTED: usize = 4;
 
-/// So often each outcome that a function may have must have come up.
-const HITS_WANTED: u64 = 20;
-
-/// The outcomes that each function may have, and for a known action those that come once the net is well shaped.
-const PERMITTED: &[(&str, &[u32])] = &[
-    ("fresh", &[0, 9, 10]),
-    ("step", &[0, 1, 2, 3, 4, 5, 6]),
-    ("step tick", &[0, 3, 5]),
-    ("step ask", &[0, 3, 4, 6]),
-    ("step refresh", &[0, 3, 4, 6]),
-    ("step deliver", &[0, 3, 4, 6]),
-    ("step lose", &[0, 3, 4]),
-    ("step give up", &[0, 3, 4]),
-    ("step drop child", &[0, 3, 4]),
-    ("step member", &[0, 3]),
-    ("step route", &[0, 3]),
-    ("run", &[0, 1, 10, 11, 12]),
-    ("find", &[0, 1, 7]),
-    ("call", &[0, 1, 3, 8, 10]),
-];
-
-const ACTIONS: [&str; 9] = ["tick", "ask", "refresh", "deliver", "lose", "give up", "drop child", "member", "route"];
+/// What the output of a conversion holds before.
+const STALE: [u8; NET_BYTES] = [165; NET_BYTES];
 
 pub fn compare(seed: u64, driver: &[String], score: &mut Score) {
     match Compare::start(seed, driver) {
@@ -69,10 +51,9 @@ pub struct Compare {
     /// Differences in the family, and all that were printed.
     pub differences: u64,
     printed: usize,
-    /// How often each function had each outcome, by the model.
-    hits: BTreeMap<(&'static str, u32), u64>,
-    /// How often each sentence of "well shaped" was broken in a net.
-    pub broken: BTreeMap<&'static str, u64>,
+    outcomes: Outcomes,
+    /// How often each sentence of "well shaped" was broken in a net, in each form.
+    pub broken: BTreeMap<String, u64>,
 }
 
 impl Compare {
@@ -86,8 +67,8 @@ impl Compare {
             calls: 0,
             differences: 0,
             printed: 0,
-            hits: BTreeMap::new(),
-            broken: BREACHES.iter().map(|breach| (breach.sentence, 0)).collect(),
+            outcomes: Outcomes::default(),
+            broken: sentences().map(|sentence| (sentence, 0)).collect(),
         })
     }
 
@@ -97,7 +78,7 @@ impl Compare {
             score.count(self.family(family));
             calls += self.calls;
         }
-        score.count(self.outcomes());
+        score.count(self.outcomes.tell());
         score.count(self.sentences());
         score.count(self.ends_well());
         println!("compare: {calls} calls compared");
@@ -123,23 +104,6 @@ impl Compare {
         self.differences == 0
     }
 
-    /// Prints the table of outcomes; true if each one permitted came up often enough, and no other.
-    fn outcomes(&self) -> bool {
-        let mut ok = true;
-        for &(function, permitted) in PERMITTED {
-            let hits = |outcome| self.hits.get(&(function, outcome)).copied().unwrap_or(0);
-            let cells: Vec<String> =
-                permitted.iter().map(|&outcome| format!("{outcome}: {}", hits(outcome))).collect();
-            println!("compare: outcomes of {function:16} {}", cells.join("  "));
-            ok &= permitted.iter().all(|&outcome| hits(outcome) >= HITS_WANTED);
-        }
-        ok &= self.hits.keys().all(|(name, outcome)| {
-            PERMITTED.iter().any(|(function, permitted)| function == name && permitted.contains(outcome))
-        });
-        println!("compare: outcomes {}", if ok { "ok" } else { "FAILED" });
-        ok
-    }
-
     /// True if each sentence was broken often enough.
     fn sentences(&self) -> bool {
         let least = self.broken.values().copied().min().unwrap_or(0);
@@ -162,44 +126,47 @@ impl Compare {
         let mut after = net.to_vec();
         let result = face::fresh(plan, &mut after);
         let words = || format!("fresh of a plan of {} bytes, net of {}", plan.len(), net.len());
-        self.hold("fresh", words, theirs, Answer::of(vec![result], vec![("net", after)]));
+        self.hold(Some("fresh"), words, theirs, Answer::of(vec![result], vec![("net", after)]));
         Ok(())
     }
 
-    pub fn step(&mut self, net: &[u8], one: Step) -> io::Result<()> {
-        let theirs = self.driver.steps(net, &[one])?;
+    pub fn step(&mut self, form: Form, net: &[u8], one: Step) -> io::Result<()> {
+        let theirs = self.driver.steps(form, net, &[one])?;
         let mut after = net.to_vec();
-        let result = face::step(&mut after, one);
-        self.count_step(one, result);
-        let words = || format!("step {one:?} of a net of {} bytes", net.len());
-        self.hold("", words, theirs, Answer::of(vec![result], vec![("net", after)]));
+        let result = match form {
+            Form::Saved => face::step(&mut after, one),
+            Form::Working => face::working_step(&mut after, one),
+        };
+        self.outcomes.hit_step(form, one, result);
+        let words = || format!("{} {one:?} of a net of {} bytes", name_in(form, "step"), net.len());
+        self.hold(None, words, theirs, Answer::of(vec![result], vec![(lent_as(form), after)]));
         Ok(())
     }
 
     /// Many steps on one net. If they differ, they are taken again one by one, to find the first that does.
-    pub fn steps(&mut self, before: &Net, steps: &[Step]) -> io::Result<()> {
+    pub fn steps(&mut self, form: Form, before: &Net, steps: &[Step]) -> io::Result<()> {
         let mut net = before.clone();
         let mut results = Vec::new();
         for &one in steps {
             let result = step::step(&mut net, one).err().map_or(0, u32::from);
-            self.count_step(one, result);
+            self.outcomes.hit_step(form, one, result);
             results.push(result);
         }
         self.calls += steps.len() as u64;
-        let theirs = self.driver.steps(&encode(before), steps)?;
-        let ours = Answer::of(results, vec![("net", encode(&net))]);
-        if theirs == ours || self.step_that_differs(before, steps)? {
+        let theirs = self.driver.steps(form, &encode(form, before), steps)?;
+        let ours = Answer::of(results, vec![(lent_as(form), encode(form, &net))]);
+        if theirs == ours || self.step_that_differs(form, before, steps)? {
             return Ok(());
         }
-        self.hold("", || format!("{} steps on one net", steps.len()), theirs, ours);
+        self.hold(None, || format!("{} times {} on one net", steps.len(), name_in(form, "step")), theirs, ours);
         Ok(())
     }
 
-    fn step_that_differs(&mut self, before: &Net, steps: &[Step]) -> io::Result<bool> {
+    fn step_that_differs(&mut self, form: Form, before: &Net, steps: &[Step]) -> io::Result<bool> {
         let mut net = before.clone();
         for &one in steps {
             let differences = self.differences;
-            self.step(&encode(&net), one)?;
+            self.step(form, &encode(form, &net), one)?;
             if self.differences > differences {
                 return Ok(true);
             }
@@ -208,13 +175,31 @@ impl Compare {
         Ok(false)
     }
 
-    pub fn run(&mut self, net: &[u8], script: &[u8], tally: &[u8]) -> io::Result<()> {
-        let theirs = self.driver.run(net, script, tally)?;
+    pub fn run(&mut self, form: Form, net: &[u8], script: &[u8], tally: &[u8]) -> io::Result<()> {
+        let theirs = self.driver.run(form, net, script, tally)?;
         let (mut after, mut counts) = (net.to_vec(), tally.to_vec());
-        let result = face::run(&mut after, script, &mut counts);
-        let words = || format!("run of {} bytes, net of {}, tally of {}", script.len(), net.len(), tally.len());
-        let ours = Answer::of(vec![result], vec![("net", after), ("tally", counts)]);
-        self.hold("run", words, theirs, ours);
+        let result = match form {
+            Form::Saved => face::run(&mut after, script, &mut counts),
+            Form::Working => face::working_run(&mut after, script, &mut counts),
+        };
+        let name = name_in(form, "run");
+        let words = || format!("{name} of {} bytes, net of {}, tally of {}", script.len(), net.len(), tally.len());
+        let ours = Answer::of(vec![result], vec![(lent_as(form), after), ("tally", counts)]);
+        self.hold(Some(&name), words, theirs, ours);
+        Ok(())
+    }
+
+    /// Into the other form.
+    pub fn convert(&mut self, from: Form, net: &[u8], other: &[u8]) -> io::Result<()> {
+        let theirs = self.driver.convert(from, net, other)?;
+        let mut after = other.to_vec();
+        let result = match from {
+            Form::Saved => face::to_working(net, &mut after),
+            Form::Working => face::to_saved(net, &mut after),
+        };
+        let name = conversion(from);
+        let words = || format!("{name} of a net of {} bytes, into {}", net.len(), other.len());
+        self.hold(Some(name), words, theirs, Answer::of(vec![result], vec![(lent_as(from.other()), after)]));
         Ok(())
     }
 
@@ -223,7 +208,7 @@ impl Compare {
         let theirs = self.driver.find((!sent).then_some(net), name)?;
         let result = face::find(net, name);
         let words = || format!("find of {name:?} in a net of {} bytes", net.len());
-        self.hold("find", words, theirs, Answer::of(vec![result], vec![]));
+        self.hold(Some("find"), words, theirs, Answer::of(vec![result], vec![]));
         Ok(())
     }
 
@@ -234,67 +219,97 @@ impl Compare {
         let result = face::call(net, group, station, &mut after);
         let words =
             || format!("call group {group} station {station}, net of {} bytes, list of {}", net.len(), list.len());
-        self.hold("call", words, theirs, Answer::of(vec![result], vec![("list", after)]));
+        self.hold(Some("call"), words, theirs, Answer::of(vec![result], vec![("list", after)]));
         Ok(())
+    }
+
+    // ---- one form held to the other
+
+    /// What the library makes of a net in the saved form by these steps, one by one and in a run, and what it makes of
+    /// it in the working form, there and back by its own conversions. No model has a part in it.
+    pub fn both_forms(&mut self, net: &[u8], steps: &[Step]) -> io::Result<()> {
+        let work = self.driver.convert(Form::Saved, net, &STALE)?;
+        let there_and_back = self.saved_again(work.clone())?;
+        let given = Answer::of(vec![0], vec![("net", net.to_vec())]);
+        self.agree("there and back", there_and_back, given);
+
+        let work = &work.lent[0].bytes;
+        let working = self.driver.steps(Form::Working, work, steps)?;
+        let (working, saved) = (self.saved_again(working)?, self.driver.steps(Form::Saved, net, steps)?);
+        self.agree("steps", working, saved);
+
+        let (script, tally) = (steps.concat(), [9; TALLY_BYTES]);
+        let working = self.driver.run(Form::Working, work, &script, &tally)?;
+        let (working, saved) = (self.saved_again(working)?, self.driver.run(Form::Saved, net, &script, &tally)?);
+        self.agree("run", working, saved);
+        Ok(())
+    }
+
+    /// The answer with its net as the library converts it to the saved form.
+    fn saved_again(&mut self, mut answer: Answer) -> io::Result<Answer> {
+        let mut back = self.driver.convert(Form::Working, &answer.lent[0].bytes, &STALE)?;
+        answer.fared = answer.fared.max(back.fared);
+        answer.lent[0] = back.lent.remove(0);
+        Ok(answer)
+    }
+
+    fn agree(&mut self, what: &str, working: Answer, saved: Answer) {
+        self.judge(|| format!("{what} in both forms"), ["working form", "saved form"], working, saved);
     }
 
     // ---- counting and telling
 
-    fn count_step(&mut self, one: Step, result: u32) {
-        self.hit("step", result);
-        if let (1..=9, 0 | 2..) = (one[0], result) {
-            self.hit(step_name(one[0]), result);
+    /// Holds the library's answer to the model's. Steps are counted elsewhere: then the function has no name here.
+    fn hold(&mut self, function: Option<&str>, words: impl Fn() -> String, theirs: Answer, ours: Answer) {
+        if let Some(name) = function {
+            self.outcomes.hit(name, ours.results[0]);
         }
+        self.judge(words, ["library", "model"], theirs, ours);
     }
 
-    fn hit(&mut self, function: &'static str, result: u32) {
-        *self.hits.entry((function, result & 255)).or_insert(0) += 1;
-    }
-
-    /// Compares two answers. Steps are counted elsewhere: then the function has no name here.
-    fn hold(&mut self, function: &'static str, words: impl Fn() -> String, theirs: Answer, ours: Answer) {
+    fn judge(&mut self, words: impl Fn() -> String, sides: [&str; 2], one: Answer, other: Answer) {
         self.calls += 1;
-        if !function.is_empty() {
-            self.hit(function, ours.results[0]);
-        }
-        if theirs != ours {
+        if one != other {
             self.differences += 1;
             if self.printed < MOST_PRINTED {
                 self.printed += 1;
-                self.tell(&words(), &theirs, &ours);
+                self.tell(&words(), sides, &one, &other);
             }
         }
     }
 
-    fn tell(&self, words: &str, theirs: &Answer, ours: &Answer) {
+    fn tell(&self, words: &str, sides: [&str; 2], one: &Answer, other: &Answer) {
         println!("compare: DIFFERENCE in case {} of {} (--seed {}): {words}", self.case, self.family, self.seed);
-        if theirs.fared != 0 {
-            println!(
-                "  a byte changed {}",
-                if theirs.fared == 1 { "beside a buffer" } else { "that was lent for reading" }
-            );
+        for (side, answer) in sides.iter().zip([one, other]) {
+            match answer.fared {
+                0 => {}
+                1 => println!("  {side}: a byte changed beside a buffer"),
+                _ => println!("  {side}: a byte changed that was lent for reading"),
+            }
         }
-        if let Some(i) = (0..ours.results.len()).find(|&i| theirs.results[i] != ours.results[i]) {
-            println!("  result {i}: library {:#x}, model {:#x}", theirs.results[i], ours.results[i]);
+        if let Some(i) = (0..other.results.len()).find(|&i| one.results[i] != other.results[i]) {
+            println!("  result {i}: {} {:#x}, {} {:#x}", sides[0], one.results[i], sides[1], other.results[i]);
         }
-        for (their, our) in theirs.lent.iter().zip(&ours.lent) {
-            tell_bytes(their, our);
+        for (one, other) in one.lent.iter().zip(&other.lent) {
+            tell_bytes(sides, one, other);
         }
     }
 }
 
-fn tell_bytes(theirs: &Lent, ours: &Lent) {
-    let differing: Vec<usize> = (0..ours.bytes.len()).filter(|&i| theirs.bytes[i] != ours.bytes[i]).collect();
+fn tell_bytes(sides: [&str; 2], one: &Lent, other: &Lent) {
+    let differing: Vec<usize> = (0..other.bytes.len()).filter(|&i| one.bytes[i] != other.bytes[i]).collect();
     for &at in differing.iter().take(MOST_BYTES_PRINTED) {
-        let part = if ours.what == "net" { part_at(at) } else { format!("byte {at}") };
-        println!("  {}: {part}: library {}, model {}", ours.what, theirs.bytes[at], ours.bytes[at]);
+        let form = [Form::Saved, Form::Working].into_iter().find(|&form| lent_as(form) == other.what);
+        let part = form.map_or_else(|| format!("byte {at}"), |form| part_at(form, at));
+        println!("  {}: {part}: {} {}, {} {}", other.what, sides[0], one.bytes[at], sides[1], other.bytes[at]);
     }
     if differing.len() > MOST_BYTES_PRINTED {
-        println!("  {}: {} bytes differ in all", ours.what, differing.len());
+        println!("  {}: {} bytes differ in all", other.what, differing.len());
     }
 }
 
-fn step_name(action: u8) -> &'static str {
-    let name = ACTIONS[usize::from(action) - 1];
-    PERMITTED.iter().map(|row| row.0).find(|row| row.strip_prefix("step ") == Some(name)).unwrap_or("step")
+/// Every sentence of "well shaped", in each form.
+fn sentences() -> impl Iterator<Item = String> {
+    let in_form = |form| BREACHES.iter().map(move |breach| name_in(form, breach.sentence));
+    in_form(Form::Saved).chain(in_form(Form::Working))
 }

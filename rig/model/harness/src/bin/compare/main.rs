@@ -3,8 +3,10 @@
 //! cases. The last line is `N passed, M failed`.
 
 mod families;
+mod forms;
 mod functions;
 mod listings;
+mod outcomes;
 
 use std::process::ExitCode;
 
