@@ -20,3 +20,5 @@ pub mod step;
 
 #[cfg(test)]
 mod examples;
+#[cfg(test)]
+mod form_examples;
