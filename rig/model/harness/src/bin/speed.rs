@@ -21,16 +21,49 @@ extern "C" {
         tally: *mut u8,
         tally_len: usize,
     ) -> u32;
+    fn kep_to_working(net: *const u8, net_len: usize, work: *mut u8, work_len: usize) -> u32;
+    fn kep_to_saved(work: *const u8, work_len: usize, net: *mut u8, net_len: usize) -> u32;
+    fn kep_working_step(work: *mut u8, work_len: usize, action: u8, a: u8, b: u8, c: u8) -> u32;
+    fn kep_working_run(
+        work: *mut u8,
+        work_len: usize,
+        script: *const u8,
+        script_len: usize,
+        tally: *mut u8,
+        tally_len: usize,
+    ) -> u32;
 }
 
-fn library_step(net: &mut [u8], one: step::Step) -> u32 {
+fn library_step(form: Form, net: &mut [u8], one: step::Step) -> u32 {
+    let step = if form == Form::Saved { kep_step } else { kep_working_step };
     // the pointer is to as many bytes as said, and lent for this call alone
-    unsafe { kep_step(net.as_mut_ptr(), net.len(), one[0], one[1], one[2], one[3]) }
+    unsafe { step(net.as_mut_ptr(), net.len(), one[0], one[1], one[2], one[3]) }
 }
 
-fn library_run(net: &mut [u8], script: &[u8], tally: &mut [u8]) -> u32 {
+fn library_run(form: Form, net: &mut [u8], script: &[u8], tally: &mut [u8]) -> u32 {
+    let run = if form == Form::Saved { kep_run } else { kep_working_run };
     // as above, and the three do not overlap
-    unsafe { kep_run(net.as_mut_ptr(), net.len(), script.as_ptr(), script.len(), tally.as_mut_ptr(), tally.len()) }
+    unsafe { run(net.as_mut_ptr(), net.len(), script.as_ptr(), script.len(), tally.as_mut_ptr(), tally.len()) }
+}
+
+fn library_convert(from: Form, net: &[u8], other: &mut [u8]) -> u32 {
+    let convert = if from == Form::Saved { kep_to_working } else { kep_to_saved };
+    // as above, and the two do not overlap
+    unsafe { convert(net.as_ptr(), net.len(), other.as_mut_ptr(), other.len()) }
+}
+
+fn model_step(form: Form, net: &mut [u8], one: step::Step) -> u32 {
+    match form {
+        Form::Saved => face::step(net, one),
+        Form::Working => face::working_step(net, one),
+    }
+}
+
+fn model_run(form: Form, net: &mut [u8], script: &[u8], tally: &mut [u8]) -> u32 {
+    match form {
+        Form::Saved => face::run(net, script, tally),
+        Form::Working => face::working_run(net, script, tally),
+    }
 }
 
 const ROUNDS: usize = 101;
@@ -39,8 +72,13 @@ const ROUND_NANOS: f64 = 3_000_000.0;
 fn main() {
     println!("speed: nanoseconds, median of {ROUNDS} rounds; the ratio is the library's time to Rust's");
     well_shaped_test();
-    one_step();
-    long_run();
+    one_step(Form::Saved, "one step, full net");
+    long_run(Form::Saved, "run of 4,096 steps");
+    tell_script();
+    one_step(Form::Working, "one step, working form");
+    long_run(Form::Working, "run of 4,096 steps, working form");
+    conversion(Form::Saved, "to the working form, full net");
+    conversion(Form::Working, "to the saved form, full net");
 }
 
 /// Nanoseconds of one call of the library's and of Rust's, and the ratio of the first to the second.
@@ -105,21 +143,21 @@ fn full_net(random: &mut Random) -> Net {
 /// test.
 fn well_shaped_test() {
     let net = full_net(&mut Random::new(1));
-    let mut theirs = shape::encode(&net);
+    let mut theirs = shape::encode(Form::Saved, &net);
     let ours = theirs.clone();
-    assert_eq!(library_step(&mut theirs, [0; 4]), 2);
-    assert!(fast::well_shaped(&ours));
+    assert_eq!(library_step(Form::Saved, &mut theirs, [0; 4]), 2);
+    assert!(fast::well_shaped(Form::Saved, &ours));
     let plain = ours.clone();
-    let library = || assert!(library_step(black_box(&mut theirs), black_box([0; 4])) == 2);
-    let times = measure(library, || assert!(fast::well_shaped(black_box(&ours))));
+    let library = || assert!(library_step(Form::Saved, black_box(&mut theirs), black_box([0; 4])) == 2);
+    let times = measure(library, || assert!(fast::well_shaped(Form::Saved, black_box(&ours))));
     tell("well-shaped test, full net", 1.0, times, "Rust: branch-free test on the bytes");
-    let library = || assert!(library_step(black_box(&mut theirs), black_box([0; 4])) == 2);
-    let times = measure(library, || assert!(shape::decode(black_box(&plain)).is_some()));
+    let library = || assert!(library_step(Form::Saved, black_box(&mut theirs), black_box([0; 4])) == 2);
+    let times = measure(library, || assert!(shape::decode(Form::Saved, black_box(&plain)).is_some()));
     tell("the same", 1.0, times, "Rust: the model's decoding");
 }
 
-/// Refresh, deliver, deliver: at the end the net is as it was, so that the round can be taken again and again.
-fn one_step() {
+/// A full net in which a child can refresh: its parent and the empty channels between them let it.
+fn net_to_refresh() -> (Net, u8, u8) {
     let mut net = full_net(&mut Random::new(2));
     let root = net.root(0);
     let child = (root + 1) % MOST_STATIONS;
@@ -128,55 +166,80 @@ fn one_step() {
     net.entries[0][root].clock = 0;
     net.channels[root][child].clear();
     net.channels[child][root].clear();
-    let before = shape::encode(&net);
-    let (p, q) = (child as u8, root as u8);
+    (net, child as u8, root as u8)
+}
+
+/// Refresh, deliver, deliver: at the end the net is as it was, so that the round can be taken again and again.
+fn one_step(form: Form, what: &str) {
+    let (net, p, q) = net_to_refresh();
+    let before = shape::encode(form, &net);
     let round = [[3, 0, p, 0], [4, p, q, 0], [4, q, p, 0]];
     let (mut theirs, mut ours, mut plain) = (before.clone(), before.clone(), before.clone());
-    let mut library = || assert!(round.iter().all(|&one| library_step(black_box(&mut theirs), black_box(one)) == 0));
+    let mut library =
+        || assert!(round.iter().all(|&one| library_step(form, black_box(&mut theirs), black_box(one)) == 0));
     let mut rust = || {
         let bytes = black_box(&mut ours);
-        assert!(fast::refresh(bytes, 0, p) && fast::deliver(bytes, p, q) && fast::deliver(bytes, q, p));
+        assert!(
+            fast::refresh(form, bytes, 0, p) && fast::deliver(form, bytes, p, q) && fast::deliver(form, bytes, q, p)
+        );
     };
     library();
     rust();
     let times = measure(&mut library, &mut rust);
-    tell(
-        "one step, full net",
-        3.0,
-        times,
-        "mean of refresh, deliver, deliver; Rust: branch-free test, then on the bytes",
-    );
-    let rust = || assert!(round.iter().all(|&one| face::step(black_box(&mut plain), black_box(one)) == 0));
+    tell(what, 3.0, times, "mean of refresh, deliver, deliver; Rust: branch-free test, then on the bytes");
+    let rust = || assert!(round.iter().all(|&one| model_step(form, black_box(&mut plain), black_box(one)) == 0));
     let times = measure(&mut library, rust);
     tell("the same", 3.0, times, "Rust: the model, which decodes, steps and encodes");
     assert!(theirs == before && ours == before && plain == before);
 }
 
-/// A script of 4,096 steps as they come up in use: routes, members, ticks, asks, deliveries, losses.
-fn long_run() {
+/// A net and a script of 4,096 steps as they come up in use: routes, members, ticks, asks, deliveries, losses.
+fn net_and_script() -> (Net, Vec<u8>) {
     let mut random = Random::new(3);
     let mut net = fresh::fresh(make::plan_of(&mut random, MOST_STATIONS, MOST_GROUPS));
     make::set_routes(&mut net);
     let script = make::steps(&mut random, &mut net.clone(), SCRIPT_BYTES_MOST / 4).concat();
-    let before = shape::encode(&net);
+    (net, script)
+}
+
+fn long_run(form: Form, what: &str) {
+    let (net, script) = net_and_script();
+    let before = shape::encode(form, &net);
     let (mut theirs, mut ours) = (before.clone(), before.clone());
     let (mut their_tally, mut our_tally) = ([0; TALLY_BYTES], [0; TALLY_BYTES]);
     let mut library = || {
         theirs.copy_from_slice(&before);
-        assert!(library_run(black_box(&mut theirs), black_box(&script), &mut their_tally) == 0);
+        assert!(library_run(form, black_box(&mut theirs), black_box(&script), &mut their_tally) == 0);
     };
     let mut rust = || {
         ours.copy_from_slice(&before);
-        assert!(face::run(black_box(&mut ours), black_box(&script), &mut our_tally) == 0);
+        assert!(model_run(form, black_box(&mut ours), black_box(&script), &mut our_tally) == 0);
     };
     library();
     rust();
     let times = measure(&mut library, &mut rust);
     assert!(theirs == ours && their_tally == our_tally);
+    let how = "both with one test of the net; Rust: the model, which decodes and encodes once";
+    tell(what, 1.0, times, how);
+    tell("the same, for one step", 4096.0, times, "the run's time by its steps");
+}
+
+fn tell_script() {
+    let (mut net, script) = net_and_script();
     let tally = run::run(&mut net, &script);
     let busy = net.channels.iter().flatten().flatten().filter(|m| matches!(m, Message::Request { .. })).count();
-    let how = "both with one test of the net; Rust: the model, which decodes and encodes once";
-    tell("run of 4,096 steps", 1.0, times, how);
-    tell("the same, for one step", 4096.0, times, "the run's time by its steps");
     println!("speed: that run accepted {}, refused {}, left {busy} requests", tally.accepted, tally.refused);
+}
+
+fn conversion(from: Form, what: &str) {
+    let net = full_net(&mut Random::new(1));
+    let (before, after) = (shape::encode(from, &net), shape::encode(from.other(), &net));
+    let (mut theirs, mut ours) = (vec![0; NET_BYTES], vec![0; NET_BYTES]);
+    let mut library = || assert!(library_convert(from, black_box(&before), black_box(&mut theirs)) == 0);
+    let mut rust = || assert!(fast::convert(from, black_box(&before), black_box(&mut ours)));
+    library();
+    rust();
+    let times = measure(&mut library, &mut rust);
+    assert!(theirs == after && ours == after);
+    tell(what, 1.0, times, "Rust: branch-free test, then the bytes moved");
 }
