@@ -1,4 +1,4 @@
-/* A host to start from: it builds a plan, makes the net, steps it, and asks whom a call reaches.
+/* A host to start from: it builds a plan, makes the net, steps it, asks whom a call reaches, and takes it through the working form.
  *
  * The net is the example of the requirements: three stations in a line, 0-1-2, and one group, "A", with root 0.
  * Nothing is read, and what is printed is always the same: rig/build runs this host and holds it to rig/host.expected.
@@ -14,7 +14,7 @@
 /* What each outcome means, by its number. */
 static const char *const outcome_texts[] = {
     [KEP_ACCEPTED] = "accepted",
-    [KEP_NET_NOT_WELL_SHAPED] = "the net is not 15,728 bytes or not well shaped",
+    [KEP_NET_NOT_WELL_SHAPED] = "the net is not 15,728 bytes or not well shaped in this form",
     [KEP_NO_SUCH_ACTION] = "there is no action of this number",
     [KEP_OPERAND] = "an operand is out of range, not a neighbour, or unused and not zero",
     [KEP_NOT_ENABLED] = "the action is not enabled",
@@ -52,13 +52,18 @@ static void print_outcome(uint32_t result)
         printf("refused %u, %s\n", outcome, outcome_text(outcome));
 }
 
+static void tell(const char *what, uint32_t result)
+{
+    printf("%s: ", what);
+    print_outcome(result);
+}
+
 /* For what cannot go on after a refusal: says what was refused, and ends the host. */
 static void must(const char *what, uint32_t result)
 {
     if (accepted(result))
         return;
-    printf("%s: ", what);
-    print_outcome(result);
+    tell(what, result);
     exit(1);
 }
 
@@ -140,10 +145,20 @@ static void put_example(uint8_t *plan)
 
 enum { TICK = 1, ASK, REFRESH, DELIVER, LOSE, GIVE_UP, DROP_CHILD, MEMBER, ROUTE };
 
-static void step(uint8_t *net, const char *what, uint8_t action, uint8_t a, uint8_t b, uint8_t c)
+/* A step or a run of the library's: there is one for each form of the net. */
+typedef uint32_t step_function(uint8_t *net, size_t net_len, uint8_t action, uint8_t a, uint8_t b, uint8_t c);
+typedef uint32_t run_function(uint8_t *net, size_t net_len, const uint8_t *script, size_t script_len, uint8_t *tally,
+                              size_t tally_len);
+
+static void step_in(step_function *take, uint8_t *net, const char *what, uint8_t action, uint8_t a, uint8_t b, uint8_t c)
 {
     printf("%s (%d %d %d %d): ", what, action, a, b, c);
-    print_outcome(kep_step(net, KEP_NET_BYTES, action, a, b, c));
+    print_outcome(take(net, KEP_NET_BYTES, action, a, b, c));
+}
+
+static void step(uint8_t *net, const char *what, uint8_t action, uint8_t a, uint8_t b, uint8_t c)
+{
+    step_in(kep_step, net, what, action, a, b, c);
 }
 
 static void step_by_step(uint8_t *net)
@@ -164,24 +179,22 @@ static const uint8_t rest[] = {
     ASK, 0, 2, 0, DELIVER, 2, 1, 0, DELIVER, 1, 2, 0,
 };
 
-/* A count of the tally: four bytes, the highest first. */
-static unsigned long count_at(const uint8_t *tally, unsigned which)
+/* A count of the tally, or a clock: four bytes, the highest first. */
+static unsigned long number_at(const uint8_t *at)
 {
-    const uint8_t *at = tally + 4 * which;
-
     return (unsigned long)at[0] << 24 | (unsigned long)at[1] << 16 | (unsigned long)at[2] << 8 | at[3];
 }
 
-static void run_the_rest(uint8_t *net)
+static void run_in(run_function *run, uint8_t *net, const char *what, const uint8_t *script, size_t script_len)
 {
     static const char *const names[] = {"accepted", "refused", "sent", "delivered", "lost"};
     uint8_t tally[KEP_TALLY_BYTES];
     unsigned i;
 
-    must("the run", kep_run(net, KEP_NET_BYTES, rest, sizeof rest, tally, sizeof tally));
-    printf("a run of %u steps:", (unsigned)(sizeof rest / 4));
+    must(what, run(net, KEP_NET_BYTES, script, script_len, tally, sizeof tally));
+    printf("%s of %u steps:", what, (unsigned)(script_len / 4));
     for (i = 0; i < 5; i++)
-        printf(" %s %lu", names[i], count_at(tally, i));
+        printf(" %s %lu", names[i], number_at(tally + 4 * i));
     printf("\n");
 }
 
@@ -224,6 +237,67 @@ static void call(const uint8_t *net, uint8_t group, uint8_t station)
         print_reached(list + 3 * i);
 }
 
+/* ---- The working form */
+
+/* Where the entries stand in it: those of one station side by side, one for each group. */
+enum {
+    AT_ENTRIES = 368,
+    ENTRY_BYTES = 12,
+    STATION_BYTES = GROUPS_MOST * ENTRY_BYTES,
+    ENTRY_CLOCK = 4 /* in an entry, behind parent, tentative parent, member and a zero */
+};
+
+static void print_station(const uint8_t *work, unsigned station)
+{
+    const uint8_t *entry = work + AT_ENTRIES + STATION_BYTES * station;
+    unsigned group;
+
+    for (group = 0; group < work[AT_GROUPS]; group++, entry += ENTRY_BYTES)
+        printf("  station %u in group %u: parent %d, clock %lu\n", station, group, entry[0], number_at(entry + ENTRY_CLOCK));
+}
+
+/* The root ticks, and station 1 hears of it. The root may not ask. */
+static const uint8_t heard[] = {ASK, 0, 1, 0, DELIVER, 1, 0, 0, DELIVER, 0, 1, 0};
+
+static void hear(step_function *take, run_function *run, uint8_t *net)
+{
+    step_in(take, net, "the root of group 0 ticks", TICK, 0, 0, 0);
+    step_in(take, net, "the root asks", ASK, 0, 0, 0);
+    run_in(run, net, "a run", heard, sizeof heard);
+}
+
+/* Neither form passes for the other, and a refusal changes nothing: net and work can be used as before. */
+static void exchange_forms(uint8_t *net, uint8_t *work)
+{
+    static uint8_t other[KEP_NET_BYTES];
+    uint8_t tally[KEP_TALLY_BYTES];
+
+    step_in(kep_step, work, "a step that takes the working form for the saved one", TICK, 0, 0, 0);
+    step_in(kep_working_step, net, "a step that takes the saved form for the working one", TICK, 0, 0, 0);
+    tell("a run that takes the working form for the saved one",
+         kep_run(work, KEP_NET_BYTES, heard, sizeof heard, tally, sizeof tally));
+    tell("a run that takes the saved form for the working one",
+         kep_working_run(net, KEP_NET_BYTES, heard, sizeof heard, tally, sizeof tally));
+    tell("the working form into the working form", kep_to_working(work, KEP_NET_BYTES, other, sizeof other));
+    tell("the saved form into the saved form", kep_to_saved(net, KEP_NET_BYTES, other, sizeof other));
+    tell("the working form into a byte less", kep_to_saved(work, KEP_NET_BYTES, other, sizeof other - 1));
+}
+
+static void both_forms(uint8_t *net)
+{
+    static uint8_t work[KEP_NET_BYTES], saved[KEP_NET_BYTES];
+
+    tell("the net into the working form", kep_to_working(net, KEP_NET_BYTES, work, sizeof work));
+    hear(kep_working_step, kep_working_run, work);
+    print_station(work, 1);
+    exchange_forms(net, work);
+    tell("the net into the saved form", kep_to_saved(work, sizeof work, saved, sizeof saved));
+
+    printf("the same in the saved form\n");
+    hear(kep_step, kep_run, net);
+    printf("the nets are %s\n", memcmp(net, saved, sizeof saved) == 0 ? "the same" : "not the same");
+}
+
 int main(void)
 {
     static uint8_t plan[KEP_PLAN_BYTES], net[KEP_NET_BYTES];
@@ -234,12 +308,14 @@ int main(void)
 
     step_by_step(net);
     call(net, 0, 2); /* too early: station 2 has no parent yet */
-    run_the_rest(net);
+    run_in(kep_run, net, "a run", rest, sizeof rest);
 
     find(net, "AB"); /* a name is found whole or not at all */
     found = find(net, "A");
     must("group A", found);
     call(net, (uint8_t)KEP_GROUP(found), 2);
+
+    both_forms(net);
 
     return fflush(stdout) == 0 ? 0 : 1; /* a full disk is not a good end */
 }
