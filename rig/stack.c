@@ -9,10 +9,11 @@
 #include <stdio.h>
 #include <string.h>
 
-enum { STATIONS = 16, ROOM = 1 << 16, MARK = 0xa5, ORDERS = 100 };
+enum { STATIONS = 16, ROOM = 1 << 16, FILLER = 0xa5, ORDERS = 100 };
 enum { TICK = 1, ASK = 2, DELIVER = 4, MEMBER = 8, ROUTE = 9 };
 
-static uint8_t plan[KEP_PLAN_BYTES], net[KEP_NET_BYTES], script[1024], tally[KEP_TALLY_BYTES], list[KEP_LIST_BYTES];
+static uint8_t plan[KEP_PLAN_BYTES], net[KEP_NET_BYTES], work[KEP_NET_BYTES], saved[KEP_NET_BYTES];
+static uint8_t script[1024], tally[KEP_TALLY_BYTES], list[KEP_LIST_BYTES];
 static size_t script_len;
 
 /* The compiler is not to know what becomes of the bytes. */
@@ -23,7 +24,7 @@ static __attribute__((noinline)) void fill(void)
 {
     uint8_t room[ROOM];
 
-    memset(room, MARK, sizeof room);
+    memset(room, FILLER, sizeof room);
     LEND(room);
 }
 
@@ -33,13 +34,15 @@ static __attribute__((noinline)) unsigned used(void)
     size_t i = 0;
 
     LEND(room);
-    while (i < sizeof room && room[i] == MARK)
+    while (i < sizeof room && room[i] == FILLER)
         i++;
     return (unsigned)(sizeof room - i);
 }
 
-/* The most of each function, in the order of kepalumbi.h. */
-enum { FRESH, STEP, RUN, FIND, CALL, FUNCTIONS };
+/* The functions in the order of kepalumbi.h, and the most of each. */
+enum { FRESH, STEP, RUN, FIND, CALL, TO_WORKING, TO_SAVED, WORKING_STEP, WORKING_RUN, FUNCTIONS };
+static const char *const names[FUNCTIONS] = {"fresh",      "step",     "run",          "find",       "call",
+                                             "to_working", "to_saved", "working_step", "working_run"};
 static unsigned most[FUNCTIONS];
 
 static void keep(int function)
@@ -85,41 +88,61 @@ static void put_chain(const uint8_t *order)
     }
 }
 
+typedef uint32_t step_function(uint8_t *net, size_t net_len, uint8_t action, uint8_t a, uint8_t b, uint8_t c);
+
 /* Each action, with operands that name a group, a station and its neighbour, or two neighbours. */
-static void measure_steps(const uint8_t *order)
+static void measure_steps(int function, step_function *step, uint8_t *stepped, const uint8_t *order)
 {
     uint8_t action, last = order[STATIONS - 1], before = order[STATIONS - 2];
 
     for (action = 0; action <= ROUTE + 1; action++) {
         fill();
-        kep_step(net, sizeof net, action, 0, last, action == 7 ? before : 0);
-        keep(STEP);
+        step(stepped, KEP_NET_BYTES, action, 0, last, action == 7 ? before : 0);
+        keep(function);
         fill();
-        kep_step(net, sizeof net, action, last, before, 0);
-        keep(STEP);
+        step(stepped, KEP_NET_BYTES, action, last, before, 0);
+        keep(function);
     }
 }
 
-/* 1 if the call reaches the whole chain. */
+/* Runs the fresh net in both forms: 1 if it comes to the same. */
+static int measure_runs(void)
+{
+    fill();
+    kep_to_working(net, sizeof net, work, sizeof work);
+    keep(TO_WORKING);
+    fill();
+    kep_run(net, sizeof net, script, script_len, tally, sizeof tally);
+    keep(RUN);
+    fill();
+    kep_working_run(work, sizeof work, script, script_len, tally, sizeof tally);
+    keep(WORKING_RUN);
+    fill();
+    kep_to_saved(work, sizeof work, saved, sizeof saved);
+    keep(TO_SAVED);
+    return memcmp(net, saved, sizeof net) == 0;
+}
+
+/* 1 if both forms come to the same, and the call reaches the whole chain. */
 static int measure(const uint8_t *order)
 {
     uint32_t result;
+    int same;
 
     put_chain(order);
     fill();
     kep_fresh(plan, sizeof plan, net, sizeof net);
     keep(FRESH);
-    fill();
-    kep_run(net, sizeof net, script, script_len, tally, sizeof tally);
-    keep(RUN);
+    same = measure_runs();
     fill();
     kep_find(net, sizeof net, (const uint8_t *)"A", 1);
     keep(FIND);
     fill();
     result = kep_call(net, sizeof net, 0, order[STATIONS - 1], list, sizeof list);
     keep(CALL);
-    measure_steps(order);
-    return KEP_OUTCOME(result) == KEP_ACCEPTED && KEP_REACHED(result) == STATIONS;
+    measure_steps(STEP, kep_step, net, order);
+    measure_steps(WORKING_STEP, kep_working_step, work, order);
+    return same && KEP_OUTCOME(result) == KEP_ACCEPTED && KEP_REACHED(result) == STATIONS;
 }
 
 /* Exchanges two stations of the order, at random. */
@@ -137,6 +160,11 @@ static void change(uint8_t *order)
     order[j] = one;
 }
 
+static unsigned limit(unsigned function)
+{
+    return function == CALL ? KEP_CALL_STACK_BYTES : KEP_STACK_BYTES;
+}
+
 int main(void)
 {
     uint8_t order[STATIONS];
@@ -149,9 +177,11 @@ int main(void)
         well &= measure(order);
         change(order);
     }
-    printf("stack: kep_fresh %u, kep_step %u, kep_run %u, kep_find %u bytes of %u, kep_call %u of %u\n", most[FRESH], most[STEP],
-           most[RUN], most[FIND], (unsigned)KEP_STACK_BYTES, most[CALL], (unsigned)KEP_CALL_STACK_BYTES);
-    for (i = 0; i < FUNCTIONS; i++)
-        well &= most[i] <= (i == CALL ? KEP_CALL_STACK_BYTES : KEP_STACK_BYTES);
+    printf("stack, in bytes:");
+    for (i = 0; i < FUNCTIONS; i++) {
+        printf("%s kep_%s %u of %u", i > 0 ? "," : "", names[i], most[i], limit(i));
+        well &= most[i] <= limit(i);
+    }
+    printf("\n");
     return well && fflush(stdout) == 0 ? 0 : 1;
 }
