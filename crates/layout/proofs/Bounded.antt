@@ -2,21 +2,23 @@
 --     zeros-at, zeros-of                            what the test of a stretch says, and when it passes
 --     table-done, table-at, table-rest, table-of    a loop over a table ends, what the test of a table says, and when it passes
 --     grid-rest, grid-of                            the same of a table of tables
-use mathlib.Core.Path.{_≡_, subst, ap, ap₂, _∙_}
+--     cell-used, cell-free                          the test of a cell that is used, and of one that is not
+--     cells-at, cells-rest, cells-of                what the test of a grid says, and when it passes
+use mathlib.Core.Path.{_≡_, sym, subst, ap, ap₂, _∙_}
 use mathlib.Core.List.{List}
 use mathlib.Core.Logic.{_⊎_, inl, inr, ⊎-elim}
-use mathlib.Core.Bool.{Bool, true, _&&_}
+use mathlib.Core.Bool.{Bool, true, false, _&&_}
 use Prim.Native.Nat.{ℕ, zero, suc, _+_, _-_, _*_, _/_, _%_, _≤_, _<_}
 use native.Mathlib.Nat.{add-sub-of-le, mul-suc, mul-comm, mul-le-mul-left, div-add-mod', div-lt-iff-lt-mul, mod-lt}
 use native.Mathlib.Omega.{arith}
 use lib.Dec.{eqb, ltb}
 use lib.ListN.{length, List·getD-eq-default}
-use borrow.Author.Tests.{eqb-true, eq-eqb, ltb-true, lt-ltb}
+use borrow.Author.Tests.{eqb-true, eq-eqb, ltb-true, lt-ltb, le-ltb}
 use Rattle.bits.proofs.Cases.{by-lt, and-l, and-r, and-both}
 use Rattle.bits.specs.Below.{allBelow}
 use Rattle.bits.proofs.Below.{all-done, all-at, all-of}
 use Rattle.layout.specs.Layout.{byte}
-use Rattle.layout.specs.Bounded.{allBytes, zeros, same, table}
+use Rattle.layout.specs.Bounded.{allBytes, zeros, same, table, used, cellPass, gridPass}
 
 -- ---- stretches of bytes
 pub zeros-at : (l : List ℕ) (a e : ℕ) → zeros l a e ≡ true → (i : ℕ) → a ≤ i → i < e → byte l i ≡ 0
@@ -105,3 +107,51 @@ module _ (l : List ℕ) (at w cols r rows m n : ℕ) (P : ℕ → ℕ → Bool) 
       ap (byte l) here ∙ in-row ((k - at) / r) ((k - at) % r)
       (div-lt-iff-lt-mul some .1 (omega (arith, mul-comm r rows))) (mod-lt (k - at) some)
       (inl (by-lt ((k - at) / r) m (λ c. absurd (let d = div-lt-iff-lt-mul some .0 c in omega (arith, mul-comm r m))) (λ c. c))))
+
+-- ---- what is used
+pub used-in : (i m j n : ℕ) → i < m → j < n → used i m j n ≡ true
+unfolding used
+used-in i m j n h k = rw (lt-ltb i m h, lt-ltb j n k)
+
+pub used-out : (i m j n : ℕ) → (m ≤ i) ⊎ (n ≤ j) → used i m j n ≡ false
+unfolding used
+used-out i m j n (inl h) = rw (le-ltb i m h)
+used-out i m j n (inr h) = by-lt i m (λ k. rw (lt-ltb i m k, le-ltb j n h)) (λ k. rw (le-ltb i m k))
+
+pub by-used {ℓ} : {P : Type ℓ} (i m j n : ℕ) → (i < m → j < n → P) → ((m ≤ i) ⊎ (n ≤ j) → P) → P
+by-used i m j n f g = by-lt i m (λ h. by-lt j n (λ k. f h k) (λ k. g (inr k))) (λ h. g (inl h))
+
+-- ---- a grid, cell by cell
+module _ (l : List ℕ) (at : ℕ → ℕ → ℕ) (w rows cols m n : ℕ) (P : ℕ → ℕ → Bool) where
+  pub cell-used : (i j : ℕ) → used i m j n ≡ true → cellPass l at w m n P i j ≡ P i j
+  unfolding cellPass
+  cell-used i j t = rw t
+
+  pub cell-free : (i j : ℕ) → used i m j n ≡ false → cellPass l at w m n P i j ≡ zeros l (at i j) (at i j + w)
+  unfolding cellPass
+  cell-free i j f = rw f
+
+  cell-in : (i j : ℕ) → i < m → j < n → cellPass l at w m n P i j ≡ P i j
+  cell-in i j h k = cell-used i j (used-in i m j n h k)
+
+  cell-out : (i j : ℕ) → (m ≤ i) ⊎ (n ≤ j) → cellPass l at w m n P i j ≡ zeros l (at i j) (at i j + w)
+  cell-out i j o = cell-free i j (used-out i m j n o)
+
+  cell-at : gridPass l at w rows cols m n P ≡ true → (i j : ℕ) → i < rows → j < cols → cellPass l at w m n P i j ≡ true
+  unfolding gridPass
+  cell-at t i j h k = all-at _ cols (all-at _ rows t i h) j k
+
+  pub cells-at : m ≤ rows → n ≤ cols → gridPass l at w rows cols m n P ≡ true → (i j : ℕ) → i < m → j < n → P i j ≡ true
+  cells-at hm hn t i j h k = sym (cell-in i j h k) ∙ cell-at t i j (omega arith) (omega arith)
+
+  pub cells-rest : gridPass l at w rows cols m n P ≡ true
+      → (i j x : ℕ) → i < rows → j < cols → x < w → (m ≤ i) ⊎ (n ≤ j) → byte l (at i j + x) ≡ 0
+  cells-rest t i j x hi hj hx o = zeros-at l (at i j) (at i j + w) (sym (cell-out i j o) ∙ cell-at t i j hi hj) (at i j + x) (omega arith) (omega arith)
+
+  pub cells-of : ((i j : ℕ) → i < m → j < n → P i j ≡ true)
+      → ((i j x : ℕ) → i < rows → j < cols → x < w → (m ≤ i) ⊎ (n ≤ j) → byte l (at i j + x) ≡ 0) → gridPass l at w rows cols m n P ≡ true
+  unfolding gridPass
+  cells-of f z = all-of _ rows (λ i hi. all-of _ cols (λ j hj. by-used i m j n
+      (λ h k. cell-in i j h k ∙ f i j h k)
+      (λ o. cell-out i j o ∙ zeros-of l (at i j) (at i j + w) (λ y a b.
+      let e : at i j + (y - at i j) ≡ y = add-sub-of-le a in ap (byte l) (sym e) ∙ z i j (y - at i j) hi hj (omega arith) o))))

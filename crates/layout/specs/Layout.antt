@@ -68,21 +68,12 @@ abbrev pub route : List ℕ → ℕ → ℕ → ℕ
 route l p d = byte l (routeAt p d)
 
 -- ---- 368: "4 x 16 station entries of 12, by group, then station: parent, tentative parent, member, zero, clock (4), children
--- mask (2), waiting mask (2)". A group's entries are one row
+-- mask (2), waiting mask (2)"; where each stands, in this form and in others, is in Marks.antt
 abbrev pub entriesAt : ℕ
 entriesAt = 368
 
 abbrev pub entrySize : ℕ
 entrySize = 12
-
-abbrev pub entryRowSize : ℕ
-entryRowSize = mostStations * entrySize
-
-abbrev pub entryRowAt : ℕ → ℕ
-entryRowAt g = entriesAt + entryRowSize * g
-
-abbrev pub entryAt : ℕ → ℕ → ℕ
-entryAt g p = entryRowAt g + entrySize * p
 
 -- ---- 1136: "16 x 16 channels of 57, by sender, then receiver: count, then 8 messages of 7"
 abbrev pub messageSize : ℕ

@@ -2,7 +2,7 @@
 ghost use mathlib.Core.Path.{_≡_};
 ghost use Prim.Native.Nat.{_+_, _≤_, _<_};
 ghost use Rattle.protocol.specs.Net.{mostGroups, mostStations};
-ghost use Rattle.layout.specs.Layout.{groupAt, maskAt, routeAt, entryRowAt, entryAt, channelAt, channelSize, channelsAt, entriesAt, entrySize, groupSize, maskSize, masksAt, netLength, routesAt, entryRowSize};
+ghost use Rattle.layout.specs.Layout.{groupAt, maskAt, routeAt, channelAt, channelSize, entriesAt, groupSize, maskSize, masksAt, netLength, routesAt};
 
 pub const NET_LENGTH: usize = 15728;
 
@@ -26,7 +26,10 @@ pub const ENTRIES_AT: usize = 368;
 
 pub const ENTRY_SIZE: usize = 12;
 
-pub const ENTRY_ROW_SIZE: usize = 192;
+// The entries of one group, and those of one station.
+pub const GROUP_ENTRIES_SIZE: usize = 192;
+
+pub const STATION_ENTRIES_SIZE: usize = 48;
 
 pub const CHANNELS_AT: usize = 1136;
 
@@ -55,20 +58,6 @@ pub fn route_at(p: usize, d: usize) -> usize
     ensures { λ r. ⌜ (r ≡ routeAt p d) × (r < entriesAt) ⌝ }
 {
     ROUTES_AT + ROUTE_ROW_SIZE * p + d
-}
-
-pub fn entry_row_at(g: usize) -> usize
-    requires { ⌜ g < mostGroups ⌝ }
-    ensures { λ r. ⌜ (r ≡ entryRowAt g) × (r + entryRowSize ≤ channelsAt) ⌝ }
-{
-    ENTRIES_AT + ENTRY_ROW_SIZE * g
-}
-
-pub fn entry_at(g: usize, p: usize) -> usize
-    requires { ⌜ (g < mostGroups) × (p < mostStations) ⌝ }
-    ensures { λ r. ⌜ (r ≡ entryAt g p) × (r + entrySize ≤ channelsAt) ⌝ }
-{
-    ENTRIES_AT + ENTRY_ROW_SIZE * g + ENTRY_SIZE * p
 }
 
 pub fn channel_at(s: usize, d: usize) -> usize

@@ -13,7 +13,7 @@ use Rattle.protocol.specs.Net.{mostStations, mostGroups}
 use Rattle.layout.specs.Layout.{byte, planLength, stations, groups, groupSize, groupAt, nameLength, root, maskAt, neighbours}
 use Rattle.layout.proofs.Bounded.{bytes-at, bytes-of, table-at, table-rest, zeros-at}
 use Rattle.layout.proofs.Facts.{facts}
-use Rattle.plan.specs.Planned.{Header, ofVersion1, headerShaped, groupShaped, sameNames, newName, namesDistinct, bothWays, stationCabled, planned, planShaped}
+use Rattle.plan.specs.Planned.{Header, planHeader, headerShaped, groupShaped, sameNames, newName, namesDistinct, bothWays, stationCabled, planned, planShaped}
 
 pub header-few : (l : List ℕ) (H : Header) → headerShaped l H ≡ true → (stations l ≤ 16) × (groups l ≤ 4)
 unfolding headerShaped
@@ -77,7 +77,7 @@ module _ (l : List ℕ) (H : Header) (e : planned l H ≡ true) where
   answer-at p q h k = (simp facts at (cabled-at p h)) .1 q k
 
 -- bytes of the right length whose header, groups and cables pass are a well-shaped plan
-pub plan-is : (l : List ℕ) (r : Bool) → length l ≡ planLength → ((i : ℕ) → byte l i < 256) → r ≡ planned l (ofVersion1 planLength) → r ≡ planShaped l
+pub plan-is : (l : List ℕ) (r : Bool) → length l ≡ planLength → ((i : ℕ) → byte l i < 256) → r ≡ planned l planHeader → r ≡ planShaped l
 unfolding planShaped
 plan-is l r n h e = rw (eq-eqb _ _ n, bytes-of l h) e
 
@@ -90,6 +90,6 @@ module _ (l : List ℕ) (e : planShaped l ≡ true) where
   unfolding planShaped
   plan-small = bytes-at l ((simp facts at e) .0 .1)
 
-  pub plan-passes : planned l (ofVersion1 planLength) ≡ true
+  pub plan-passes : planned l planHeader ≡ true
   unfolding planShaped
   plan-passes = (simp facts at e) .1

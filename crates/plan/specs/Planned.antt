@@ -7,7 +7,9 @@ use lib.ListN.{length}
 use Rattle.bits.specs.Masks.{has, below}
 use Rattle.bits.specs.Parts.{numberAt}
 use Rattle.protocol.specs.Net.{mostStations, mostGroups, longestName}
-use Rattle.layout.specs.Layout.{byte, planLength, stations, groups, groupsAt, nameSize, groupSize, groupAt, nameLength, root, masksAt, maskSize, neighbours}
+use Rattle.layout.specs.declared.form.Mark.{Mark}
+use Rattle.layout.specs.Marks.{markByte}
+use Rattle.layout.specs.Layout.{byte, netLength, planLength, stations, groups, groupsAt, nameSize, groupSize, groupAt, nameLength, root, masksAt, maskSize, neighbours}
 use Rattle.bits.specs.Below.{allBelow, _implies_}
 use Rattle.layout.specs.Bounded.{allBytes, zeros, same, table}
 
@@ -20,9 +22,17 @@ pub record Header : Type 0 where
   pub version : ℕ
   pub byte7 : ℕ
 
--- "version 1; .. 7: zero"
-abbrev pub ofVersion1 : ℕ → Header
-ofVersion1 size = record { size = size; version = 1; byte7 = 0 }
+-- "version 1"
+abbrev pub ofVersion1 : ℕ → ℕ → Header
+ofVersion1 size byte7 = record { size = size; version = 1; byte7 = byte7 }
+
+-- "7: zero"
+abbrev pub planHeader : Header
+planHeader = ofVersion1 planLength 0
+
+-- of a net, in each of its forms
+abbrev pub netHeader : Mark → Header
+netHeader m = ofVersion1 netLength (markByte m)
 
 -- "length, version and zero bytes as in the table; n and g in range". The length is that of the whole
 unfoldable pub headerShaped : List ℕ → Header → Bool
@@ -63,4 +73,4 @@ planned l h =
     && table l masksAt maskSize mostStations (stations l) (stationCabled l (stations l))
 
 unfoldable pub planShaped : List ℕ → Bool
-planShaped l = eqb (length l) planLength && allBytes l && planned l (ofVersion1 planLength)
+planShaped l = eqb (length l) planLength && allBytes l && planned l planHeader

@@ -19,10 +19,10 @@ ghost use Rattle.layout.specs.Bounded.{table};
 ghost use Rattle.layout.specs.Layout.{planLength, groupsAt, groupSize};
 ghost use Rattle.plan.specs.Planned as planned;
 
-// The first eight bytes of a plan or a net of this size.
-pub fn header_shaped(s: &[u8], size: u32) -> bool
+// The first eight bytes of a plan or a net of this size, with this byte 7.
+pub fn header_shaped(s: &[u8], size: u32, byte7: u8) -> bool
     requires { ⌜ planLength ≤ length (now s) ⌝ }
-    ensures { λ r. ⌜ r ≡ planned.headerShaped (now (s .entry)) (planned.ofVersion1 size) ⌝ }
+    ensures { λ r. ⌜ r ≡ planned.headerShaped (now (s .entry)) (planned.ofVersion1 size byte7) ⌝ }
 {
     let n = wide(stations(s));
     let g = wide(groups(s));
@@ -30,7 +30,7 @@ pub fn header_shaped(s: &[u8], size: u32) -> bool
         & (s[4] == 1)
         & ((1 <= n) & (n <= MOST_STATIONS))
         & ((1 <= g) & (g <= MOST_GROUPS))
-        & (s[7] == 0)
+        & (s[7] == byte7)
 }
 
 // Group g: its name's length and padding, and its root.

@@ -10,11 +10,11 @@ ghost use Rattle.layout.specs.Layout.{planLength};
 ghost use Rattle.plan.specs.Planned.{ofVersion1, planned, planShaped};
 
 // What a plan and a net have in common.
-pub fn planned(s: &[u8], size: u32) -> bool
+pub fn planned(s: &[u8], size: u32, byte7: u8) -> bool
     requires { ⌜ planLength ≤ length (now s) ⌝ }
-    ensures { λ r. ⌜ r ≡ planned (now (s .entry)) (ofVersion1 size) ⌝ }
+    ensures { λ r. ⌜ r ≡ planned (now (s .entry)) (ofVersion1 size byte7) ⌝ }
 {
-    if crate::groups::header_shaped(s, size) {
+    if crate::groups::header_shaped(s, size, byte7) {
         let n = wide(stations(s));
         let g = wide(groups(s));
         crate::groups::groups_shaped(s, n, g)
@@ -32,5 +32,5 @@ pub fn plan_shaped(s: &[u8]) -> bool
     if s.len() != PLAN_LENGTH {
         return false;
     }
-    planned(s, PLAN_LENGTH as u32)
+    planned(s, PLAN_LENGTH as u32, 0)
 }
