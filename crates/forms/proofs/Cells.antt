@@ -3,32 +3,16 @@
 --     cells-of, grid-of        a list whose parts are the cells is the cells
 --     is-cell, is-zero         a part that is a used cell's, and that of an unused one
 use mathlib.Core.Path.{_≡_, sym, ap, ap₂, _∙_}
-use mathlib.Core.Logic.{_⊎_, inl, inr}
-use mathlib.Core.Bool.{true, false}
 use mathlib.Core.List.{List, [], _++_}
 use Prim.Native.Nat.{ℕ, zero, suc, _+_, _*_, _≤_, _<_}
 use native.Mathlib.Nat.{add-zero, mul-zero, mul-suc, mul-le-mul-left}
 use native.Mathlib.Omega.{arith}
 use lib.ListN.{length, getD, length-append}
-use borrow.Author.Tests.{lt-ltb, le-ltb}
 use Rattle.bits.specs.Parts.{part}
-use Rattle.bits.proofs.Cases.{by-eq, by-lt}
+use Rattle.bits.proofs.Cases.{by-eq}
 use Rattle.bits.proofs.Parts.{length-part, getD-part, part-cong, part-part, part-add, part-all, part-left, part-right, part-same}
 use Rattle.layout.specs.Layout.{byte}
-use Rattle.forms.specs.Cells.{cells, used}
-
--- ---- what is used
-pub used-in : (i m j n : ℕ) → i < m → j < n → used i m j n ≡ true
-unfolding used
-used-in i m j n h k = rw (lt-ltb i m h, lt-ltb j n k)
-
-pub used-out : (i m j n : ℕ) → (m ≤ i) ⊎ (n ≤ j) → used i m j n ≡ false
-unfolding used
-used-out i m j n (inl h) = rw (le-ltb i m h)
-used-out i m j n (inr h) = by-lt i m (λ k. rw (lt-ltb i m k, le-ltb j n h)) (λ k. rw (le-ltb i m k))
-
-pub by-used {ℓ} : {P : Type ℓ} (i m j n : ℕ) → (i < m → j < n → P) → ((m ≤ i) ⊎ (n ≤ j) → P) → P
-by-used i m j n f g = by-lt i m (λ h. by-lt j n (λ k. f h k) (λ k. g (inr k))) (λ h. g (inl h))
+use Rattle.forms.specs.Cells.{cells}
 
 -- ---- a part that is a cell: xs is what the cell holds
 module _ (w : ℕ) (l : List ℕ) (at : ℕ) (xs : List ℕ) where

@@ -3,6 +3,8 @@ pub mod Cells
 pub mod Names
 pub mod plan
 pub mod Grids
+pub mod Turns
+pub mod Folds
 pub mod Tables
 pub mod Queues
 pub mod form

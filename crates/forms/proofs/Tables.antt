@@ -16,10 +16,12 @@ use Rattle.bits.proofs.Parts.{part-splice, part-splice-out, part-whole}
 use Rattle.protocol.specs.Net.{upd2}
 use Rattle.protocol.specs.Shaped.{none}
 use Rattle.protocol.proofs.laws.Maps.{upd2-hit, upd2-miss}
-use Rattle.forms.specs.Cells.{used, ifUsed, EachByte}
+use Rattle.layout.specs.Bounded.{used}
+use Rattle.layout.proofs.Bounded.{used-in, used-out, by-used}
+use Rattle.forms.specs.Cells.{ifUsed, EachByte}
 use Rattle.forms.specs.Places.{Place, PlanBounds}
 use Rattle.forms.specs.Tables.{Table, shown, tested, cell}
-use Rattle.forms.proofs.Cells.{used-in, used-out, by-used, is-cell, is-zero, zero-cell}
+use Rattle.forms.proofs.Cells.{is-cell, is-zero, zero-cell}
 
 -- both numbers the same, or one of them not
 by-pair : {P : Type 0} (a b c d : ℕ) → (a ≡ c → b ≡ d → P) → ((a ≢ c) ⊎ (b ≢ d) → P) → P
@@ -53,9 +55,9 @@ module _ {rows cols : ℕ} {A : Type 0} {S : Place → A → Type 0} (T : Table 
   cell-out t i j o = rw (used-out i m j n o)
 
   -- ---- from bytes that passed
-  module _ (void : A) (c : ℕ → ℕ → Place) (l : List ℕ) (b : Bytes l) (t : tested T m n c l ≡ true) where
+  module _ (void : A) (hm : m ≤ rows) (hn : n ≤ cols) (c : ℕ → ℕ → Place) (l : List ℕ) (b : Bytes l) (t : tested T m n c l ≡ true) where
     passed-at : (i j : ℕ) → i < m → j < n → T .codec .test (c i j) l (T .grid .at i j) ≡ true
-    passed-at i j h k = T .grid .pass-at l m n _ t i j h k
+    passed-at i j h k = T .grid .passes .used l m n _ hm hn t i j h k
 
     pub shows : (i j : ℕ) → i < m → j < n → S (c i j) (shown T m n void l i j)
     shows i j h k = rw (used-in i m j n h k) (T .codec .shows (c i j) l _ b (passed-at i j h k))
@@ -63,7 +65,7 @@ module _ {rows cols : ℕ} {A : Type 0} {S : Place → A → Type 0} (T : Table 
     pub held : HoldsIn T m n (shown T m n void l) l
     held i j hi hj = by-used i m j n
         (λ h k. is-cell w l (T .grid .at i j) _ (cell-in (shown T m n void l) i j h k ∙ ap (T .codec .out) (shown-in void l i j h k) ∙ T .codec .form (c i j) l _ b (passed-at i j h k)))
-        (λ o. is-zero w l (T .grid .at i j) _ (cell-out (shown T m n void l) i j o) (λ x hx. T .grid .pass-rest l m n _ t i j x hi hj hx o))
+        (λ o. is-zero w l (T .grid .at i j) _ (cell-out (shown T m n void l) i j o) (λ x hx. T .grid .passes .rest l m n _ t i j x hi hj hx o))
 
   -- ---- from bytes that hold well-shaped things
   module _ (c : ℕ → ℕ → Place) (t : ℕ → ℕ → A) (F : ShapedIn T m n c t) where
@@ -79,12 +81,12 @@ module _ {rows cols : ℕ} {A : Type 0} {S : Place → A → Type 0} (T : Table 
           (λ o. shown-out void l i j o ∙ sym (z i j o))
 
       pub passed : Bytes l → tested T m n c l ≡ true
-      passed b = T .grid .pass-of l m n _ (F .fewRows) (F .fewCols)
+      passed b = T .grid .passes .both l m n _ (F .fewRows) (F .fewCols)
           (λ i j h k. T .codec .passes (c i j) (t i j) (F .bounds i j h k) (F .shaped i j h k) l _ b (here i j h k))
           (λ i j x hi hj hx o. zero-cell w l (T .grid .at i j) _ (K i j hi hj) (cell-out t i j o) x hx)
 
     pub each-laid : EachByte (T .grid .lay (cell T m n t))
-    each-laid = T .grid .laid-bytes _ (λ i j. by-used i m j n
+    each-laid = T .grid .laid .bytes _ (λ i j. by-used i m j n
         (λ h k. rw (used-in i m j n h k) (T .codec .bytes (c i j) (t i j) (F .bounds i j h k) (F .shaped i j h k)))
         (λ o. rw (used-out i m j n o) none))
 
@@ -93,7 +95,7 @@ module _ {rows cols : ℕ} {A : Type 0} {S : Place → A → Type 0} (T : Table 
     -- beside the table
     pub kept : (at : ℕ) (vs : List ℕ) → (at + length vs ≤ T .grid .from) ⊎ (T .grid .to ≤ at) → HoldsIn T m n t (splice l at vs)
     kept at vs o i j hi hj =
-        let f = T .grid .inside i j hi hj in
+        let f = T .grid .laid .inside i j hi hj in
         part-splice-out w l at vs (T .grid .at i j) (⊎-elim (λ a. inr (omega arith)) (λ a. inl (omega arith)) o) ∙ K i j hi hj
 
     -- in one of its cells
@@ -102,11 +104,11 @@ module _ {rows cols : ℕ} {A : Type 0} {S : Place → A → Type 0} (T : Table 
     put i j v hi hj hm hn room f x y hx hy =
         let vs : List ℕ = T .codec .out v in
         let e : length (T .codec .out v) ≡ T .grid .width = T .codec .long v f in
-        let in-it = T .grid .inside i j (omega arith) (omega arith) in
+        let in-it = T .grid .laid .inside i j (omega arith) (omega arith) in
         by-pair x y i j
         (λ a b. rw (a, b) (ap (λ (k : ℕ). part k (splice l (T .grid .at i j) vs) (T .grid .at i j)) (sym e) ∙ part-splice l (T .grid .at i j) vs (omega arith)
         ∙ sym (ap (λ (ys : List ℕ). part w ys 0) (cell-in (upd2 t i j v) i j hi hj ∙ ap (T .codec .out) (upd2-hit t i j v)) ∙ part-whole w vs e)))
-        (λ o. part-splice-out w l (T .grid .at i j) vs (T .grid .at x y) (⊎-elim (λ a. inl a) (λ a. inr (omega arith)) (T .grid .apart i j x y (omega arith) (omega arith) hx hy o))
+        (λ o. part-splice-out w l (T .grid .at i j) vs (T .grid .at x y) (⊎-elim (λ a. inl a) (λ a. inr (omega arith)) (T .grid .laid .apart i j x y (omega arith) (omega arith) hx hy o))
         ∙ K x y hx hy ∙ ap (λ (u : A). part w (ifUsed (used x m y n) (T .codec .out u)) 0) (sym (upd2-miss t i j v x y (λ a b. ⊎-elim (λ ne. ne a) (λ ne. ne b) o))))
 
     -- things that are the same wherever they are used

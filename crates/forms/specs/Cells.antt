@@ -1,8 +1,7 @@
 -- Cells: bytes of one width one after the other, of which some are used.
-use mathlib.Core.Bool.{Bool, true, false, _&&_}
+use mathlib.Core.Bool.{Bool, true, false}
 use mathlib.Core.List.{List, [], _++_}
 use Prim.Native.Nat.{ℕ, zero, suc, _<_}
-use lib.Dec.{ltb}
 use Rattle.bits.specs.Parts.{part}
 use Rattle.protocol.specs.Shaped.{All}
 
@@ -10,10 +9,6 @@ use Rattle.protocol.specs.Shaped.{All}
 unfoldable pub cells : ℕ → ℕ → (ℕ → List ℕ) → List ℕ
 cells w zero f = []
 cells w (suc n) f = cells w n f ++ part w (f n) 0
-
--- i is below m, and j below n
-unfoldable pub used : ℕ → ℕ → ℕ → ℕ → Bool
-used i m j n = ltb i m && ltb j n
 
 -- what is not used is nothing, so that its cell is all zero
 abbrev pub ifUsed : Bool → List ℕ → List ℕ

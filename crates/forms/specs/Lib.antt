@@ -5,3 +5,4 @@ pub mod Places
 pub mod Grids
 pub mod Tables
 pub mod Forms
+pub mod Folds

@@ -6,7 +6,8 @@ use Prim.Native.Nat.{ℕ}
 use lib.ListN.{length}
 use Rattle.bits.specs.Parts.{part}
 use Rattle.bits.specs.Numbers.{Bytes}
-use Rattle.forms.specs.Cells.{used, ifUsed, EachByte}
+use Rattle.layout.specs.Bounded.{used}
+use Rattle.forms.specs.Cells.{ifUsed, EachByte}
 use Rattle.forms.specs.Places.{Place, PlanBounds}
 use Rattle.forms.specs.Grids.{Grid}
 

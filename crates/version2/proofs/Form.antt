@@ -22,7 +22,7 @@ use Rattle.forms.proofs.Queues.{queues}
 use Rattle.forms.proofs.form.Seen.{view-bytes}
 use Rattle.forms.proofs.form.Back.{stands}
 use Rattle.net.proofs.Codecs.{routeCodec}
-use Rattle.net.proofs.Saved.{routeGrid}
+use Rattle.net.proofs.Forms.{routeGrid}
 use Rattle.version2.specs.Records.{Entry2, Message2, version2, entrySize2, messageSize2}
 use Rattle.version2.specs.Shape.{header2, entryRowSize2, entryAt2, channelsAt2, channelSize2, channelRowSize2, channelAt2, channelShaped2, shaped2}
 use Rattle.version2.proofs.Codecs.{entryCodec2, messageCodec2}

@@ -21,9 +21,9 @@ module _ {E M : Type 0} {v : Version E M} (φ : Form v) where
   -- the tables stand in this order
   rising : (planLength ≤ φ .routes .grid .to) × (φ .entries .grid .from ≤ φ .entries .grid .to) × (φ .channels .grid .from ≤ φ .channels .grid .to)
   rising =
-      let r = φ .routes .grid .laid-long (λ i j. []) in
-      let t = φ .entries .grid .laid-long (λ i j. []) in
-      let c = φ .channels .grid .laid-long (λ i j. []) in
+      let r = φ .routes .grid .laid .long (λ i j. []) in
+      let t = φ .entries .grid .laid .long (λ i j. []) in
+      let c = φ .channels .grid .laid .long (λ i j. []) in
       let a = φ .first in (omega arith, omega arith, omega arith)
 
   module _ (N : NetOf E M) (few : N .stations ≤ mostStations) (fewGroups : N .groups ≤ mostGroups) (l : List ℕ) (K : HoldsNet φ N l) where
@@ -38,7 +38,7 @@ module _ {E M : Type 0} {v : Version E M} (φ : Form v) where
         → HoldsNet φ (setEntry N g p e) (splice l (φ .entries .grid .at g p) (φ .entries .codec .out e))
     unfolding setEntry
     put-entry g p e f hg hp =
-        let i = φ .entries .grid .inside g p (omega arith) (omega arith) in
+        let i = φ .entries .grid .laid .inside g p (omega arith) (omega arith) in
         let n : length (φ .entries .codec .out e) ≡ φ .entries .grid .width = φ .entries .codec .long e f in
         let long = K .long in let r = rising in
         let a = φ .first in let b = φ .second in let c = φ .third in let d = φ .last in
@@ -54,7 +54,7 @@ module _ {E M : Type 0} {v : Version E M} (φ : Form v) where
         → HoldsNet φ (setChannel N s d ms) (splice l (φ .channels .grid .at s d) (φ .channels .codec .out ms))
     unfolding setChannel
     put-channel s d ms f hs hd =
-        let i = φ .channels .grid .inside s d (omega arith) (omega arith) in
+        let i = φ .channels .grid .laid .inside s d (omega arith) (omega arith) in
         let n : length (φ .channels .codec .out ms) ≡ φ .channels .grid .width = φ .channels .codec .long ms f in
         let long = K .long in let r = rising in
         let a = φ .first in let b = φ .second in let c = φ .third in let e = φ .last in
@@ -70,7 +70,7 @@ module _ {E M : Type 0} {v : Version E M} (φ : Form v) where
         → HoldsNet φ (setRoute N p d q) (splice l (φ .routes .grid .at p d) (φ .routes .codec .out q))
     unfolding setRoute
     put-route p d q f hp hd =
-        let i = φ .routes .grid .inside p d (omega arith) (omega arith) in
+        let i = φ .routes .grid .laid .inside p d (omega arith) (omega arith) in
         let n : length (φ .routes .codec .out q) ≡ φ .routes .grid .width = φ .routes .codec .long q f in
         let long = K .long in let r = rising in
         let a = φ .first in let b = φ .second in let c = φ .third in let e = φ .last in

@@ -44,9 +44,9 @@ module _ {E M : Type 0} {v : Version E M} (φ : Form v) where
     begins : (planLength ≡ φ .routes .grid .from) × (planLength + length R ≡ φ .entries .grid .from)
         × (planLength + length R + length T ≡ φ .channels .grid .from) × (planLength + length R + length T + length C ≡ φ .header .size)
     begins =
-        let r = φ .routes .grid .laid-long (cell (φ .routes) (N .stations) (N .stations) (N .route)) in
-        let t = φ .entries .grid .laid-long (cell (φ .entries) (N .groups) (N .stations) (N .entry)) in
-        let c = φ .channels .grid .laid-long (cell (φ .channels) (N .stations) (N .stations) (N .channel)) in
+        let r = φ .routes .grid .laid .long (cell (φ .routes) (N .stations) (N .stations) (N .route)) in
+        let t = φ .entries .grid .laid .long (cell (φ .entries) (N .groups) (N .stations) (N .entry)) in
+        let c = φ .channels .grid .laid .long (cell (φ .channels) (N .stations) (N .stations) (N .channel)) in
         let a = φ .first in let b = φ .second in let d = φ .third in let e = φ .last in (omega arith, omega arith, omega arith, omega arith)
 
     pub bytes-hold : HoldsNet φ N (bytesIn φ N)
@@ -83,10 +83,10 @@ module _ {E M : Type 0} {v : Version E M} (φ : Form v) where
         sym (part-all l) ∙ ap (λ (k : ℕ). part k l 0) n ∙ part-add planLength (length R + (length T + length C)) l 0
         ∙ ap₂ _++_ (sym (holds-plan (planOf N) (φ .header) l (K .plan)))
         (part-add (length R) (length T + length C) l (0 + planLength)
-        ∙ ap₂ _++_ (ap (part (length R) l) i1 ∙ sym (φ .routes .grid .laid-of _ l (K .routes) (length R) (omega arith)))
+        ∙ ap₂ _++_ (ap (part (length R) l) i1 ∙ sym (φ .routes .grid .laid .whole _ l (K .routes) (length R) (omega arith)))
         (part-add (length T) (length C) l (0 + planLength + length R)
-        ∙ ap₂ _++_ (ap (part (length T) l) i2 ∙ sym (φ .entries .grid .laid-of _ l (K .entries) (length T) (omega arith)))
-        (ap (part (length C) l) i3 ∙ sym (φ .channels .grid .laid-of _ l (K .channels) (length C) (omega arith)))))
+        ∙ ap₂ _++_ (ap (part (length T) l) i2 ∙ sym (φ .entries .grid .laid .whole _ l (K .entries) (length T) (omega arith)))
+        (ap (part (length C) l) i3 ∙ sym (φ .channels .grid .laid .whole _ l (K .channels) (length C) (omega arith)))))
 
   pub bytes-same : (N O : NetOf E M) → planOf N ≡ planOf O
       → ((p d : ℕ) → p < N .stations → d < N .stations → N .route p d ≡ O .route p d)

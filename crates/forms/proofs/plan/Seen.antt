@@ -14,9 +14,9 @@ use Rattle.bits.proofs.Cases.{by-lt, clash}
 use Rattle.bits.proofs.Masks.{has-zero}
 use Rattle.bits.proofs.Parts.{length-part, getD-part, part-Bytes, bytes-numberAt, part-add}
 use Rattle.protocol.specs.Shaped.{ShapedPlan}
-use Rattle.layout.specs.Layout.{byte, planLength, stations, groups, groupSize, groupAt, nameLength, maskAt, neighbours}
+use Rattle.layout.specs.Layout.{byte, stations, groups, groupSize, groupAt, nameLength, maskAt, neighbours}
 use Rattle.layout.proofs.Bounded.{same-of}
-use Rattle.plan.specs.Planned.{Header, ofVersion1, sameNames, planned, planShaped}
+use Rattle.plan.specs.Planned.{Header, planHeader, sameNames, planned, planShaped}
 use Rattle.plan.proofs.Plans.{counts, name-at, padding-at, root-at, new-at, neighbour-below, no-loop, answer-at, header-is, groups-rest, masks-rest, plan-small, plan-passes}
 use Rattle.forms.specs.Plans.{nameOf, planIn, nameBytes, headerBytes}
 use Rattle.forms.proofs.Cells.{is-cell, is-zero}
@@ -105,7 +105,7 @@ module _ (l : List ℕ) (h : Header) (s : planned l h ≡ true) (small : Bytes l
 -- ---- a plan by itself
 module _ (l : List ℕ) (s : planShaped l ≡ true) where
   pub plan-seen : ShapedPlan (planIn l)
-  plan-seen = seen-plan l (ofVersion1 planLength) (plan-passes l s) (plan-small l s)
+  plan-seen = seen-plan l planHeader (plan-passes l s) (plan-small l s)
 
-  pub plan-held : HoldsPlan (planIn l) (ofVersion1 planLength) l
-  plan-held = held-plan l (ofVersion1 planLength) (plan-passes l s) (plan-small l s)
+  pub plan-held : HoldsPlan (planIn l) planHeader l
+  plan-held = held-plan l planHeader (plan-passes l s) (plan-small l s)

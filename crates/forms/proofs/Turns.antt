@@ -2,7 +2,7 @@
 use mathlib.Core.Path.{_≡_, _∙_}
 use Prim.Native.Nat.{ℕ, _+_}
 use native.Mathlib.Numerals.{add-one}
-use Rattle.fresh.specs.inner.Laying.{inRow, inRows}
+use Rattle.forms.specs.Folds.{inRow, inRows}
 
 module _ {A : Type 0} (put : A → ℕ → ℕ → A) where
   pub row-turn : (x s : A) (i m : ℕ) → s ≡ inRow put x i m → put s i m ≡ inRow put x i (m + 1)
