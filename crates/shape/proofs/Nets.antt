@@ -1,8 +1,8 @@
 -- What bytes say that passed a test of a net.
-use mathlib.Core.Path.{_≡_}
+use mathlib.Core.Path.{_≡_, refl}
 use mathlib.Core.Logic.{_≢_}
 use mathlib.Core.List.{List}
-use mathlib.Core.Bool.{Bool, true}
+use mathlib.Core.Bool.{Bool, true, cond}
 use Prim.Native.Nat.{ℕ, _+_, _≤_, _<_}
 use native.Mathlib.Omega.{arith}
 use lib.Dec.{eqb}
@@ -13,11 +13,14 @@ use Rattle.bits.specs.Parts.{numberAt}
 use Rattle.bits.proofs.Cases.{by-or, and-l, and-r}
 use Rattle.protocol.specs.Net.{nil, request, reply, mostStations}
 use Rattle.layout.specs.Layout.{byte, netLength, stations, groups, messageSize}
+use Rattle.layout.specs.declared.form.Mark.{Mark}
+use Rattle.layout.specs.declared.form.Mark.the-variants.{Saved, Working}
+use Rattle.layout.specs.Marks.{markByte, markOf}
 use Rattle.layout.proofs.Bounded.{bytes-of, zeros-at}
 use Rattle.layout.proofs.Facts.{facts}
-use Rattle.plan.specs.Planned.{Header, ofVersion1, planned}
-use Rattle.plan.proofs.Plans.{counts}
-use Rattle.shape.specs.Shape.{nilOr, routeShaped, parentsShaped, memberAndMasksShaped, entryShaped, messageShaped, laidOut, shaped}
+use Rattle.plan.specs.Planned.{Header, netHeader, planned}
+use Rattle.plan.proofs.Plans.{counts, header-is}
+use Rattle.shape.specs.Shape.{nilOr, routeShaped, parentsShaped, memberAndMasksShaped, entryShaped, messageShaped, laidOut, shapedAs}
 
 pub nil-or : (m r : ℕ) → nilOr m r ≡ true → r ≢ nil → has m r ≡ true
 unfolding nilOr
@@ -76,19 +79,28 @@ module _ (g : ℕ) (l : List ℕ) (at : ℕ) (e : messageShaped g l at ≡ true)
   message-bare r = let f = simp facts at e in zeros-at l _ _ (f .1 r)
 
 -- ---- a net that passed
-module _ (l : List ℕ) (e : shaped l ≡ true) where
+module _ (m : Mark) (l : List ℕ) (e : shapedAs m l ≡ true) where
   pub long : length l ≡ netLength
-  unfolding shaped
+  unfolding shapedAs
   long = (simp facts at e) .0 .0
 
-  pub plan-pass : planned l (ofVersion1 netLength) ≡ true
-  unfolding shaped laidOut
+  pub plan-pass : planned l (netHeader m) ≡ true
+  unfolding shapedAs laidOut
   plan-pass = (simp facts at e) .1 .0 .0 .0
 
+  -- byte 7 says its form
+  pub marked : markOf l ≡ m
+  unfolding markOf
+  marked = mark-is m (byte l 7) (header-is l (netHeader m) plan-pass .2)
+    where
+      mark-is : (m : Mark) (b : ℕ) → b ≡ markByte m → cond (eqb b 1) Working Saved ≡ m
+      mark-is Saved b e = rw e refl
+      mark-is Working b e = rw e refl
+
 -- bytes of the right length whose layout passes are well shaped
-pub net-is : (l : List ℕ) (r : Bool) → length l ≡ netLength → ((i : ℕ) → byte l i < 256) → r ≡ laidOut l → r ≡ shaped l
-unfolding shaped
-net-is l r n h e = rw (eq-eqb _ _ n, bytes-of l h) e
+pub net-is : (m : Mark) (l : List ℕ) (r : Bool) → length l ≡ netLength → ((i : ℕ) → byte l i < 256) → r ≡ laidOut m l → r ≡ shapedAs m l
+unfolding shapedAs
+net-is m l r n h e = rw (eq-eqb _ _ n, bytes-of l h) e
 
 -- a plan that passed has few stations and groups
 pub planned-few : (l : List ℕ) (H : Header) → planned l H ≡ true → (stations l ≤ 16) × (groups l ≤ 4)

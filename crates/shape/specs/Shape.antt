@@ -7,10 +7,13 @@ use lib.ListN.{length}
 use Rattle.bits.specs.Masks.{has, within}
 use Rattle.bits.specs.Parts.{numberAt}
 use Rattle.protocol.specs.Net.{nil, mostStations, mostGroups, capacity, request, reply}
-use Rattle.layout.specs.Layout.{byte, netLength, stations, groups, root, neighbours, routesAt, routeAt, entriesAt, entrySize, entryRowSize, entryRowAt, entryAt, channelsAt, channelRowSize, channelSize, channelAt, messageSize, messageAt}
+use Rattle.layout.specs.Layout.{byte, netLength, stations, groups, root, neighbours, routesAt, routeAt, entrySize, channelsAt, channelRowSize, channelSize, channelAt, messageSize, messageAt}
 use Rattle.bits.specs.Below.{_implies_}
-use Rattle.layout.specs.Bounded.{allBytes, zeros, table}
-use Rattle.plan.specs.Planned.{between, ofVersion1, planned}
+use Rattle.layout.specs.declared.form.Mark.{Mark}
+use Rattle.layout.specs.declared.form.Mark.the-variants.{Saved, Working}
+use Rattle.layout.specs.Marks.{entryAt}
+use Rattle.layout.specs.Bounded.{allBytes, zeros, table, cellPass, gridPass}
+use Rattle.plan.specs.Planned.{between, netHeader, planned}
 
 -- nil, or one of the neighbours m
 unfoldable pub nilOr : ℕ → ℕ → Bool
@@ -47,8 +50,8 @@ countShaped nb d l at = leb (byte l at) capacity && (eqb (byte l at) 0 || has nb
 unfoldable pub channelShaped : (nb g d : ℕ) → List ℕ → ℕ → Bool
 channelShaped nb g d l at = countShaped nb d l at && table l (at + 1) messageSize capacity (byte l at) (λ i. messageShaped g l (messageAt at i))
 
--- ---- the three tables of a net of n stations and g groups, row by row: "every byte of an unused .. station, route (either end not below
--- n), channel or message is zero, its nil places included"
+-- ---- the three tables of a net of n stations and g groups: "every byte of an unused .. station, route (either end not below n), channel or
+-- message is zero, its nil places included". Routes and channels row by row; an entry wherever it stands
 module _ (l : List ℕ) (n : ℕ) where
   abbrev pub routeRowShaped : ℕ → Bool
   routeRowShaped p = table l (routesAt + mostStations * p) 1 mostStations n (λ d. routeShaped (neighbours l p) p d l (routeAt p d))
@@ -56,11 +59,11 @@ module _ (l : List ℕ) (n : ℕ) where
   unfoldable pub routesShaped : Bool
   routesShaped = table l routesAt mostStations mostStations n routeRowShaped
 
-  abbrev pub entryRowShaped : ℕ → Bool
-  entryRowShaped k = table l (entryRowAt k) entrySize mostStations n (λ p. entryShaped (neighbours l p) (root l k) p l (entryAt k p))
+  abbrev pub entryCellShaped : (m : Mark) (g k p : ℕ) → Bool
+  entryCellShaped m g = cellPass l (entryAt m) entrySize g n (λ k p. entryShaped (neighbours l p) (root l k) p l (entryAt m k p))
 
-  unfoldable pub entriesShaped : (g : ℕ) → Bool
-  entriesShaped g = table l entriesAt entryRowSize mostGroups g entryRowShaped
+  unfoldable pub entriesShaped : (m : Mark) (g : ℕ) → Bool
+  entriesShaped m g = gridPass l (entryAt m) entrySize mostGroups mostStations g n (λ k p. entryShaped (neighbours l p) (root l k) p l (entryAt m k p))
 
   abbrev pub channelRowShaped : (g s : ℕ) → Bool
   channelRowShaped g s = table l (channelsAt + channelRowSize * s) channelSize mostStations n (λ d. channelShaped (neighbours l s) g d l (channelAt s d))
@@ -68,9 +71,17 @@ module _ (l : List ℕ) (n : ℕ) where
   unfoldable pub channelsShaped : (g : ℕ) → Bool
   channelsShaped g = table l channelsAt channelRowSize mostStations n (channelRowShaped g)
 
-unfoldable pub laidOut : List ℕ → Bool
-laidOut l =
-    planned l (ofVersion1 netLength) && routesShaped l (stations l) && entriesShaped l (stations l) (groups l) && channelsShaped l (stations l) (groups l)
+-- ---- a net in each form
+unfoldable pub laidOut : Mark → List ℕ → Bool
+laidOut m l =
+    planned l (netHeader m) && routesShaped l (stations l) && entriesShaped l (stations l) m (groups l) && channelsShaped l (stations l) (groups l)
 
-unfoldable pub shaped : List ℕ → Bool
-shaped l = eqb (length l) netLength && allBytes l && laidOut l
+unfoldable pub shapedAs : Mark → List ℕ → Bool
+shapedAs m l = eqb (length l) netLength && allBytes l && laidOut m l
+
+-- the net of document 01 is the saved form
+abbrev pub shaped : List ℕ → Bool
+shaped l = shapedAs Saved l
+
+abbrev pub workingShaped : List ℕ → Bool
+workingShaped l = shapedAs Working l
