@@ -1,3 +1,3 @@
 pub mod Records
 pub mod Codecs
-pub mod Saved
+pub mod Forms
