@@ -2,7 +2,7 @@
 use mathlib.Core.Path.{_≡_, refl, sym, ap, subst, _∙_}
 use mathlib.Core.Bool.{true}
 use mathlib.Core.List.{List, [], _∷_}
-use Prim.Native.Nat.{ℕ, _+_, _-_, _*_, _≤_, _<_}
+use Prim.Native.Nat.{ℕ, _+_, _-_, _≤_, _<_}
 use native.Mathlib.Nat.{add-zero, add-sub-cancel-left}
 use native.Mathlib.Omega.{arith}
 use lib.ListN.{length}
@@ -15,30 +15,46 @@ use Rattle.protocol.specs.Shaped.{Shaped}
 use Rattle.channel.specs.Messages.{messagesOf, channelBytes}
 use Rattle.channel.specs.inner.Channels.{IsChannel}
 use Rattle.channel.proofs.Messages.{length-channel}
-use Rattle.layout.specs.Layout.{byte, netLength, stations, groups, groupAt, nameLength, routeAt, entryRowAt, channelAt}
-use Rattle.plan.specs.Planned.{ofVersion1}
+use Rattle.layout.specs.Layout.{byte, stations, groups, groupAt, nameLength, routeAt, entrySize, channelAt}
+use Rattle.layout.specs.declared.form.Mark.{Mark}
+use Rattle.layout.specs.Marks.{markOf, stretchAt, inStretch}
+use Rattle.plan.specs.Planned.{netHeader}
 use Rattle.plan.proofs.Plans.{name-at}
-use Rattle.shape.specs.Shape.{shaped}
-use Rattle.shape.proofs.Nets.{long, plan-pass}
+use Rattle.shape.specs.Shape.{shapedAs}
+use Rattle.shape.proofs.Nets.{long, plan-pass, marked}
 use Rattle.net.specs.View.{view}
-use Rattle.net.specs.Encode.{entryBytes, bytesOf}
+use Rattle.net.specs.Encode.{entryBytes, bytesAs, bytesLike}
 use Rattle.net.proofs.Records.{length-entryBytes}
 use Rattle.access.specs.inner.Nets.{IsNet}
 use Rattle.forms.specs.Plans.{nameOf, planIn}
 use Rattle.forms.proofs.plan.Shown.{plan-name}
-use Rattle.net.proofs.Saved.{view-channel, seen, channel-is, view-bytes, bytes-entry, bytes-channel, bytes-route, stands}
+use Rattle.net.proofs.Forms.{view-channel, seen, channel-is, view-bytes, bytes-entry, bytes-channel, bytes-route, stands}
 
-pub is-net : (l : List ℕ) → shaped l ≡ true → IsNet l
+pub is-net : (m : Mark) (l : List ℕ) → shapedAs m l ≡ true → IsNet l
 unfolding view planIn
-is-net l s = let H = seen l s in record { shape = s; long = long l s; stationsShown = refl; groupsShown = refl; stationsMost = H .plan .stationsMost; groupsMost = H .plan .groupsMost }
+is-net m l s =
+    let H = seen m l s in
+    record {
+      shape = rw (marked m l s) s;
+      long = long m l s;
+      stationsShown = refl;
+      groupsShown = refl;
+      stationsMost = H .plan .stationsMost;
+      groupsMost = H .plan .groupsMost;
+    }
 
--- bytes that are those of a well-shaped net
-pub is-net-of : (N : Net) (l : List ℕ) → Shaped N → l ≡ bytesOf N → (IsNet l) × (view l ≡ N)
-is-net-of N l H e = let w = stands N l H e in (is-net l (w .0), w .1)
+-- bytes that are those of a well-shaped net: they are in its form, too
+pub is-net-of : (m : Mark) (N : Net) (l : List ℕ) → Shaped N → l ≡ bytesAs m N → (IsNet l) × (view l ≡ N) × (markOf l ≡ m)
+is-net-of m N l H e = let w = stands m N l H e in (is-net m l (w .0), w .1, marked m l (w .0))
+
+-- the bytes that a change of l leaves: those of a well-shaped net again, in the same form
+pub is-net-after : (l : List ℕ) (N : Net) (l' : List ℕ) → Shaped N → l' ≡ bytesLike l N
+    → (IsNet l') × (view l' ≡ N) × ((M : Net) → bytesLike l' M ≡ bytesLike l M)
+is-net-after l N l' H e = let w = is-net-of (markOf l) N l' H e in (w .0, w .1, λ M. ap (λ (m : Mark). bytesAs m M) (w .2))
 
 module _ (l : List ℕ) (r : IsNet l) where
-  here : bytesOf (view l) ≡ l
-  here = view-bytes l (r .shape)
+  here : bytesLike l (view l) ≡ l
+  here = view-bytes (markOf l) l (r .shape)
 
   -- the channel from s to d, as it is lent: its width is the code's `at + 57 - at`
   module _ (s d at : ℕ) (hs : s < view l .stations) (hd : d < view l .stations) (e : at ≡ channelAt s d) where
@@ -48,22 +64,22 @@ module _ (l : List ℕ) (r : IsNet l) where
     pub channel-lent : IsChannel (lent at (at + 57 - at) l) × (messagesOf (lent at (at + 57 - at) l) ≡ view l .channel s d)
     channel-lent =
         let below : (s < stations l) × (d < stations l) = (omega (arith, r .stationsShown), omega (arith, r .stationsShown)) in (
-          subst IsChannel (sym lent-is) (channel-is l (r .shape) s d (below .0) (below .1)),
+          subst IsChannel (sym lent-is) (channel-is (markOf l) l (r .shape) s d (below .0) (below .1)),
           ap messagesOf lent-is ∙ sym (view-channel l s d (below .0) (below .1)),
         )
 
     -- and as it comes back
-    pub channel-back : (ms : List Message) → length ms ≤ capacity → back at (at + 57 - at) l (channelBytes ms) ≡ bytesOf (setChannel (view l) s d ms)
+    pub channel-back : (ms : List Message) → length ms ≤ capacity → back at (at + 57 - at) l (channelBytes ms) ≡ bytesLike l (setChannel (view l) s d ms)
     channel-back ms most =
         rw add-sub-cancel-left
         (put-whole at 57 l (channelBytes ms) (length-channel ms most) (omega (arith, r .long, r .stationsMost))
         ∙ (λ i. splice (sym here i) (e i) (channelBytes ms))
-        ∙ sym (bytes-channel (view l) (r .stationsMost) (r .groupsMost) s d ms most hs hd))
+        ∙ sym (bytes-channel (markOf l) (view l) (r .stationsMost) (r .groupsMost) s d ms most hs hd))
 
   -- the name of group g, as it is lent
   module _ (g at n : ℕ) (h : g < view l .groups) (i : at ≡ groupAt g + 1) (e : n ≡ nameLength l g) where
     name-few : n ≤ longestName
-    name-few = rw e (name-at l (ofVersion1 netLength) (plan-pass l (r .shape)) g (omega (arith, r .groupsShown)) .1)
+    name-few = rw e (name-at l (netHeader (markOf l)) (plan-pass (markOf l) l (r .shape)) g (omega (arith, r .groupsShown)) .1)
 
     name-lent : lent at (at + n - at) l ≡ view l .name g
     unfolding view nameOf
@@ -77,15 +93,16 @@ module _ (l : List ℕ) (r : IsNet l) where
         ∙ part-part n 17 l (groupAt g) 1 (omega (arith, name-few))))
 
     pub name-is : (lent at (at + n - at) l ≡ view l .name g) × (length (lent at (at + n - at) l) ≤ longestName)
-    name-is = (name-lent, rw name-lent (seen l (r .shape) .plan .named g h .1))
+    name-is = (name-lent, rw name-lent (seen (markOf l) l (r .shape) .plan .named g h .1))
 
-  -- the row of group g comes back with the entry of station p written
-  pub entry-back : (g p a : ℕ) (e : Entry) → a ≡ entryRowAt g → g < view l .groups → p < view l .stations
-      → back a (a + 192 - a) l (splice (lent a (a + 192 - a) l) (12 * p) (entryBytes e)) ≡ bytesOf (setEntry (view l) g p e)
-  entry-back g p a e i hg hp =
-      lent-back a (a + 192 - a) l (12 * p) (entryBytes e) (omega (arith, length-entryBytes e, r .stationsMost))
-      ∙ (λ j. splice (sym here j) (i j + 12 * p) (entryBytes e))
-      ∙ sym (bytes-entry (view l) (r .stationsMost) (r .groupsMost) g p e hg hp)
+  -- the stretch of group g, n bytes from a, comes back with the entry of station p written at `at`
+  pub entry-back : (g p a n at : ℕ) (e : Entry) → a ≡ stretchAt (markOf l) g → at ≡ inStretch (markOf l) p → at + entrySize ≤ n
+      → g < view l .groups → p < view l .stations
+      → back a (a + n - a) l (splice (lent a (a + n - a) l) at (entryBytes e)) ≡ bytesLike l (setEntry (view l) g p e)
+  entry-back g p a n at e i k fits hg hp =
+      lent-back a (a + n - a) l at (entryBytes e) (omega (arith, length-entryBytes e))
+      ∙ (λ j. splice (sym here j) (i j + k j) (entryBytes e))
+      ∙ sym (bytes-entry (markOf l) (view l) (r .stationsMost) (r .groupsMost) g p e hg hp)
 
-  pub route-back : (p d at q : ℕ) → at ≡ routeAt p d → p < view l .stations → d < view l .stations → splice l at (q ∷ []) ≡ bytesOf (setRoute (view l) p d q)
-  route-back p d at q i hp hd = (λ j. splice (sym here j) (i j) (q ∷ [])) ∙ sym (bytes-route (view l) (r .stationsMost) (r .groupsMost) p d q hp hd)
+  pub route-back : (p d at q : ℕ) → at ≡ routeAt p d → p < view l .stations → d < view l .stations → splice l at (q ∷ []) ≡ bytesLike l (setRoute (view l) p d q)
+  route-back p d at q i hp hd = (λ j. splice (sym here j) (i j) (q ∷ [])) ∙ sym (bytes-route (markOf l) (view l) (r .stationsMost) (r .groupsMost) p d q hp hd)

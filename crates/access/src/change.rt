@@ -2,54 +2,55 @@
 use bits::number::put16;
 use bits::number::put32;
 use bits::number::wide;
+use layout::form::in_stretch;
+use layout::form::mark_of;
+use layout::form::stretch_at;
+use layout::form::stretch_size;
 use layout::offset::CHANNEL_SIZE;
-use layout::offset::ENTRY_ROW_SIZE;
-use layout::offset::ENTRY_SIZE;
 use layout::offset::channel_at;
-use layout::offset::entry_row_at;
 use layout::offset::route_at;
 use protocol::Entry;
 use protocol::Message;
 ghost use mathlib.Core.Path.{_≡_};
-ghost use Prim.Native.Nat.{_*_, _<_};
+ghost use Prim.Native.Nat.{_+_, _≤_, _<_};
 ghost use lib.ListN.{length};
 ghost use Rattle.bits.specs.Parts.{splice};
-ghost use Rattle.protocol.specs.Net.{Net, capacity, setEntry, setRoute, send, takeAt, mostStations};
-ghost use Rattle.layout.specs.Layout.{entrySize, entryRowSize};
+ghost use Rattle.protocol.specs.Net.{Net, capacity, setEntry, setRoute, send, takeAt};
+ghost use Rattle.layout.specs.Layout.{entrySize};
 ghost use Rattle.net.specs.View.{view};
-ghost use Rattle.net.specs.Encode.{entryBytes, bytesOf};
+ghost use Rattle.net.specs.Encode.{entryBytes, bytesLike};
 ghost use Rattle.access.specs.inner.Nets.{IsNet};
 
-// The entry of station p, written to the row of entries of one group.
-pub fn write_entry(row: &mut [u8], p: u8, e: Entry)
-    requires { ⌜ (length (now row) ≡ entryRowSize) × (p < mostStations) ⌝ }
-    ensures { λ _. ⌜ now (row .exit) ≡ splice (now (row .entry)) (entrySize * p) (entryBytes e) ⌝ }
+// An entry, written to the stretch of entries of one group.
+pub fn write_entry(stretch: &mut [u8], at: usize, e: Entry)
+    requires { ⌜ at + entrySize ≤ length (now stretch) ⌝ }
+    ensures { λ _. ⌜ now (stretch .exit) ≡ splice (now (stretch .entry)) at (entryBytes e) ⌝ }
 {
-    let at = ENTRY_SIZE * wide(p);
-    row[at] = e.parent;
-    row[at + 1] = e.tentative;
-    row[at + 2] = e.member;
-    row[at + 3] = 0;
-    put32(row, at + 4, e.clock);
-    put16(row, at + 8, e.children);
-    put16(row, at + 10, e.waiting);
+    stretch[at] = e.parent;
+    stretch[at + 1] = e.tentative;
+    stretch[at + 2] = e.member;
+    stretch[at + 3] = 0;
+    put32(stretch, at + 4, e.clock);
+    put16(stretch, at + 8, e.children);
+    put16(stretch, at + 10, e.waiting);
 }
 
-// Another entry of station p in group g: only the part that starts at the group's entries is lent on.
+// Another entry of station p in group g: only the part that starts at the group's entries, and ends with them, is lent on.
 pub fn set_entry(net: &mut [u8], g: u8, p: u8, e: Entry)
     requires { ⌜ IsNet (now net) ⌝ }
     requires { ⌜ (g < view (now net) .groups) × (p < view (now net) .stations) ⌝ }
-    ensures { λ _. ⌜ now (net .exit) ≡ bytesOf (setEntry (view (now (net .entry))) g p e) ⌝ }
+    ensures { λ _. ⌜ now (net .exit) ≡ bytesLike (now (net .entry)) (setEntry (view (now (net .entry))) g p e) ⌝ }
 {
-    let a = entry_row_at(wide(g));
-    write_entry(&mut net[a..a + ENTRY_ROW_SIZE], p, e);
+    let m = mark_of(net);
+    let a = stretch_at(m, wide(g));
+    write_entry(&mut net[a..a + stretch_size(m)], in_stretch(m, wide(p)), e);
 }
 
 // Another route from p towards d.
 pub fn set_route(net: &mut [u8], p: u8, d: u8, q: u8)
     requires { ⌜ IsNet (now net) ⌝ }
     requires { ⌜ (p < view (now net) .stations) × (d < view (now net) .stations) ⌝ }
-    ensures { λ _. ⌜ now (net .exit) ≡ bytesOf (setRoute (view (now (net .entry))) p d q) ⌝ }
+    ensures { λ _. ⌜ now (net .exit) ≡ bytesLike (now (net .entry)) (setRoute (view (now (net .entry))) p d q) ⌝ }
 {
     let at = route_at(wide(p), wide(d));
     net[at] = q;
@@ -59,7 +60,7 @@ pub fn set_route(net: &mut [u8], p: u8, d: u8, q: u8)
 pub fn take_at(net: &mut [u8], s: u8, d: u8, i: u8)
     requires { ⌜ IsNet (now net) ⌝ }
     requires { ⌜ (s < view (now net) .stations) × (d < view (now net) .stations) × (i < length (view (now net) .channel s d)) ⌝ }
-    ensures { λ _. ⌜ now (net .exit) ≡ bytesOf (takeAt (view (now (net .entry))) s d i) ⌝ }
+    ensures { λ _. ⌜ now (net .exit) ≡ bytesLike (now (net .entry)) (takeAt (view (now (net .entry))) s d i) ⌝ }
 {
     let at = channel_at(wide(s), wide(d));
     channel::remove_at(&mut net[at..at + CHANNEL_SIZE], wide(i));
@@ -69,7 +70,7 @@ pub fn take_at(net: &mut [u8], s: u8, d: u8, i: u8)
 pub fn send(net: &mut [u8], s: u8, d: u8, m: Message)
     requires { ⌜ IsNet (now net) ⌝ }
     requires { ⌜ (s < view (now net) .stations) × (d < view (now net) .stations) × (length (view (now net) .channel s d) < capacity) ⌝ }
-    ensures { λ _. ⌜ now (net .exit) ≡ bytesOf (send (view (now (net .entry))) s d m) ⌝ }
+    ensures { λ _. ⌜ now (net .exit) ≡ bytesLike (now (net .entry)) (send (view (now (net .entry))) s d m) ⌝ }
 {
     let at = channel_at(wide(s), wide(d));
     channel::push(&mut net[at..at + CHANNEL_SIZE], m);

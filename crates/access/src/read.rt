@@ -116,7 +116,10 @@ pub fn entry_of(net: &[u8], g: u8, p: u8) -> Entry
     requires { ⌜ (g < view (now net) .groups) × (p < view (now net) .stations) ⌝ }
     ensures { λ r. ⌜ r ≡ view (now (net .entry)) .entry g p ⌝ }
 {
-    read_entry(net, layout::offset::entry_at(wide(g), wide(p)))
+    read_entry(
+        net,
+        layout::form::entry_at(layout::form::mark_of(net), wide(g), wide(p)),
+    )
 }
 
 // The bytes of the channel from s to d.

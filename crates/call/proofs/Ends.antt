@@ -22,7 +22,7 @@ use Rattle.access.specs.inner.Nets.{IsNet}
 use Rattle.visit.specs.Lists.{reachBytes, listLength}
 use Rattle.call.specs.declared.Answer.the-variants.{Reached, Refused}
 use Rattle.call.specs.Answers.{answerOf, calledIn, listAfterCall, CallEnd}
-use Rattle.net.proofs.Saved.{seen}
+use Rattle.net.proofs.Forms.{seen}
 
 -- a group and a station of the net, as the test has them
 pub both-in : (N : Net) (g c : ℕ) → g < N .groups → c < N .stations → (group? N g && station? N c) ≡ true
@@ -35,7 +35,7 @@ in-both N g c o = (ltb-true _ _ (and-l (ltb g (N .groups)) (ltb c (N .stations))
 
 -- one more than the copies is the number reached
 pub copies : (l : List ℕ) (R : IsNet l) (g c : ℕ) → g < view l .groups → onTree (treeOf (view l) g) c ≡ true → suc (length (spread (treeOf (view l) g) c)) ≡ length (reach (treeOf (view l) g))
-copies l R g c h t = let H = seen l (R .shape) in call-copies (view l) H g h c (on-tree (treeOf (view l) g) (tree-rooted (view l) H g h) c .1 t)
+copies l R g c h t = let H = seen _ l (R .shape) in call-copies (view l) H g h c (on-tree (treeOf (view l) g) (tree-rooted (view l) H g h) c .1 t)
 
 module _ (l : List ℕ) (g c : ℕ) (out : List ℕ) where
   pub ends-1 : shaped l ≡ false → CallEnd l g c out (Refused 1) out

@@ -18,7 +18,7 @@ use Rattle.access.specs.inner.Nets.{IsNet}
 use Rattle.visit.specs.Lists.{reachBytes, listLength}
 use Rattle.visit.specs.inner.Visits.{stationBytes, MayVisit}
 use Rattle.visit.proofs.Visits.{reach-append}
-use Rattle.net.proofs.Saved.{seen}
+use Rattle.net.proofs.Forms.{seen}
 
 pub reach-length : (l : List Reach) → length (reachBytes l) ≡ 3 * length l
 unfolding reachBytes
@@ -49,7 +49,7 @@ module _ (l : List ℕ) (R : IsNet l) (g : ℕ) (h : g < view l .groups) where
   t = treeOf (view l) g
 
   pub few : length (reach t) ≤ mostStations
-  few = reach-few (view l) (seen l (R .shape)) g h
+  few = reach-few (view l) (seen _ l (R .shape)) g h
 
   -- the visit of the root is that of the reach list: p and n are what the code read
   module _ (p n : ℕ) (root : p ≡ view l .root g) (all : n ≡ view l .stations) where
@@ -64,7 +64,7 @@ module _ (l : List ℕ) (R : IsNet l) (g : ℕ) (h : g < view l .groups) where
     root-fit out k = record {
       is-net = R;
       group = h;
-      station = rw root (seen l (R .shape) .plan .roots g h);
+      station = rw root (seen _ l (R .shape) .plan .roots g h);
       long = k;
       deep = omega (arith, R .stationsMost);
       room = omega (arith, few, root-length);

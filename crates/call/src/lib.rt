@@ -1,8 +1,10 @@
 // The reach of a call.
 ghost use mathlib.Core.Path.{_≡_};
+ghost use mathlib.Core.Bool.{true};
 ghost use Prim.Native.Nat.{_<_};
 ghost use lib.ListN.{length};
 ghost use Rattle.protocol.specs.Net.{Net};
+ghost use Rattle.shape.specs.Shape.{shaped};
 ghost use Rattle.net.specs.View.{view};
 ghost use Rattle.access.specs.inner.Nets.{IsNet};
 ghost use Rattle.visit.specs.Lists.{listLength};
@@ -17,7 +19,7 @@ pub enum Answer {
 // The call of a station that is one, in a group that is one, with a list of the stated size.
 fn call_in(net: &[u8], g: u8, c: u8, out: &mut [u8]) -> Answer
     requires { ⌜ IsNet (now net) ⌝ }
-    requires { ⌜ (g < view (now net) .groups) × (c < view (now net) .stations) × (length (now out) ≡ listLength) ⌝ }
+    requires { ⌜ (g < view (now net) .groups) × (c < view (now net) .stations) × (length (now out) ≡ listLength) × (shaped (now net) ≡ true) ⌝ }
     ensures { λ r. ⌜ CallEnd (now (net .entry)) g c (now (out .entry)) r (now (out .exit)) ⌝ }
 {
     if visit::on_tree(net, g, c) {

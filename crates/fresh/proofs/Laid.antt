@@ -12,21 +12,26 @@ use Rattle.bits.specs.Parts.{part, splice}
 use Rattle.bits.proofs.Numbers.{length-bytes}
 use Rattle.bits.proofs.Parts.{length-splice, part-splice, part-splice-out, part-part, part-add, part-cong, splice-in, part-right, getD-zeros}
 use Rattle.protocol.specs.declared.Entry.{Entry}
-use Rattle.protocol.specs.Net.{Net, nil, setEntry, setRoute}
+use Rattle.protocol.specs.Net.{Net, nil, upd2, setEntry, setRoute}
 use Rattle.protocol.specs.Fresh.{Plan, blank, planOf, fresh}
+use Rattle.protocol.proofs.laws.Maps.{upd2-hit, upd2-all}
 use Rattle.channel.specs.Slots.{flat}
 use Rattle.channel.specs.Slots as slots
 use Rattle.channel.specs.Messages.{channelBytes}
-use Rattle.layout.specs.Layout.{netLength, planLength, stations, groups, groupAt, maskAt, routeAt, entryAt, channelAt}
-use Rattle.plan.specs.Planned.{ofVersion1, planShaped}
+use Rattle.layout.specs.Layout.{netLength, planLength, stations, groups, groupAt, maskAt, routeAt, channelAt}
+use Rattle.layout.specs.declared.form.Mark.the-variants.{Saved}
+use Rattle.layout.specs.Marks.{entryAt}
+use Rattle.layout.specs.Bounded.{used}
+use Rattle.plan.specs.Planned.{planHeader, netHeader, planShaped}
 use Rattle.plan.proofs.Plans.{counts, plan-long, plan-passes}
 use Rattle.net.specs.Encode.{entryBytes, bytesOf}
-use Rattle.fresh.specs.inner.Laying.{inRows, routeNil, entryBlank, planLaid, laid}
-use Rattle.fresh.proofs.Folds.{rows-kept, rows-read, rows-tied}
-use Rattle.forms.specs.Cells.{used, ifUsed}
+use Rattle.forms.specs.Folds.{inRows}
+use Rattle.fresh.specs.inner.Laying.{routeNil, entryBlank, planLaid, laid}
+use Rattle.forms.proofs.Folds.{rows-kept, rows-read, rows-tied}
+use Rattle.forms.specs.Cells.{ifUsed}
 use Rattle.forms.specs.Plans.{planIn, headerBytes}
 use Rattle.forms.proofs.plan.Holds.{HoldsPlan}
-use Rattle.net.proofs.Saved.{Holds, hold-bytes, bytes-same, bytes-entry, bytes-route}
+use Rattle.net.proofs.Forms.{Holds, hold-bytes, bytes-same, bytes-entry, bytes-route}
 use Rattle.forms.proofs.plan.Seen.{plan-held}
 
 -- ---- the net whose bytes are the plan's, and zeros
@@ -61,6 +66,10 @@ unfolding part flat slots.laid
 channel-zero true = refl
 channel-zero false = refl
 
+-- what is v stays v, if v is put
+put-stays : {W : Type 0} (f : ℕ → ℕ → W) (v : W) (i j p d : ℕ) → f p d ≡ v → upd2 f i j v p d ≡ v
+put-stays {W} f v i j p d = upd2-all (λ p d (w : W). f p d ≡ v → w ≡ v) (λ _. refl) (λ p d _ h. h) p d
+
 module _ (plan : List ℕ) (s : planShaped plan ≡ true) where
   abbrev P : Plan
   P = planIn plan
@@ -77,7 +86,7 @@ module _ (plan : List ℕ) (s : planShaped plan ≡ true) where
   n112 : length plan ≡ 112
   n112 = plan-long plan s
 
-  held : HoldsPlan P (ofVersion1 planLength) plan
+  held : HoldsPlan P planHeader plan
   held = plan-held plan s
 
   -- past the length, the front is the plan's
@@ -102,7 +111,7 @@ module _ (plan : List ℕ) (s : planShaped plan ≡ true) where
       sym (part-part 4 8 plan 0 4 (omega arith)) ∙ ap (λ (l : List ℕ). part 4 l 4) (held .head)
       ∙ part-right 4 (bytes 4 planLength) (1 ∷ P .stations ∷ P .groups ∷ 0 ∷ []) (length-bytes 4 planLength) 0
 
-  head : part 8 (planLaid plan) 0 ≡ headerBytes P (ofVersion1 netLength)
+  head : part 8 (planLaid plan) 0 ≡ headerBytes P (netHeader Saved)
   unfolding planLaid headerBytes bytes
   head =
       part-add 4 4 (planLaid plan) 0
@@ -113,7 +122,7 @@ module _ (plan : List ℕ) (s : planShaped plan ≡ true) where
   unfolding planLaid
   laid-long = length-splice laid1 0 (bytes 4 netLength) ∙ length-splice zeros 0 plan ∙ zeros-long
 
-  unlaid-held : Holds (unlaid P) (planLaid plan)
+  unlaid-held : Holds Saved (unlaid P) (planLaid plan)
   unlaid-held = record {
     long = laid-long;
     plan = record {
@@ -122,7 +131,7 @@ module _ (plan : List ℕ) (s : planShaped plan ≡ true) where
       masks = λ p h. front 2 (maskAt p) (omega arith) (omega arith) ∙ held .masks p h;
     };
     routes = λ p d h k. back 1 (routeAt p d) (omega arith) ∙ sym (route-zero (used p (P .stations) d (P .stations)));
-    entries = λ g p h k. back 12 (entryAt g p) (omega arith) ∙ sym (entry-zero (used g (P .groups) p (P .stations)));
+    entries = λ g p h k. back 12 (entryAt Saved g p) (omega arith) ∙ sym (entry-zero (used g (P .groups) p (P .stations)));
     channels = λ x y h k. back 57 (channelAt x y) (omega arith) ∙ sym (channel-zero (used x (P .stations) y (P .stations)));
   }
 
@@ -147,56 +156,64 @@ module _ (plan : List ℕ) (s : planShaped plan ≡ true) where
   Planned M = planOf M ≡ P
 
   few : stations plan ≤ 16
-  few = counts plan (ofVersion1 planLength) (plan-passes plan s) .1
+  few = counts plan planHeader (plan-passes plan s) .1
 
   fewGroups : groups plan ≤ 4
-  fewGroups = counts plan (ofVersion1 planLength) (plan-passes plan s) .3
+  fewGroups = counts plan planHeader (plan-passes plan s) .3
 
   tied-route : (M : Net) (p d : ℕ) → Planned M → p < n → d < n → bytesOf (gone M p d) ≡ routeNil (bytesOf M) p d
   unfolding routeNil planIn
   tied-route M p d e h k =
       let st : M .stations ≡ n = ap (λ (Q : Plan). Q .stations) e in
       let gr : M .groups ≡ groups plan = ap (λ (Q : Plan). Q .groups) e in
-      bytes-route M (omega (arith, few)) (omega (arith, fewGroups)) p d nil (omega arith) (omega arith)
+      bytes-route Saved M (omega (arith, few)) (omega (arith, fewGroups)) p d nil (omega arith) (omega arith)
 
   tied-entry : (M : Net) (g p : ℕ) → Planned M → g < groups plan → p < n → bytesOf (blanked M g p) ≡ entryBlank (bytesOf M) g p
   unfolding entryBlank planIn
   tied-entry M g p e h k =
       let st : M .stations ≡ n = ap (λ (Q : Plan). Q .stations) e in
       let gr : M .groups ≡ groups plan = ap (λ (Q : Plan). Q .groups) e in
-      bytes-entry M (omega (arith, few)) (omega (arith, fewGroups)) g p blank (omega arith) (omega arith)
+      bytes-entry Saved M (omega (arith, few)) (omega (arith, fewGroups)) g p blank (omega arith) (omega arith)
+
+  routed-plan : Planned routed
+  unfolding setRoute
+  routed-plan = rows-kept gone (λ (M : Net). planOf M) n n (λ M p d h k. refl) (unlaid P) n n (omega arith) (omega arith)
 
   all-plan : Planned all
-  unfolding setEntry setRoute
-  all-plan = rows-kept blanked (λ (M : Net). planOf M) (λ M g p. refl) routed (groups plan) n ∙ rows-kept gone (λ (M : Net). planOf M) (λ M p d. refl) (unlaid P) n n
+  unfolding setEntry
+  all-plan = rows-kept blanked (λ (M : Net). planOf M) (groups plan) n (λ M g p h k. refl) routed (groups plan) n (omega arith) (omega arith) ∙ routed-plan
 
   laid-all : laid plan ≡ bytesOf all
   unfolding laid setRoute setEntry
   laid-all =
       ap (λ (l : List ℕ). inRows entryBlank l (groups plan) n)
-      (ap (λ (l : List ℕ). inRows routeNil l n n) (hold-bytes (unlaid P) (planLaid plan) unlaid-held)
-      ∙ sym (rows-tied gone routeNil bytesOf Planned n n (λ M p d e. e) tied-route (unlaid P) n n refl (omega arith) (omega arith)))
-      ∙ sym (rows-tied blanked entryBlank bytesOf Planned (groups plan) n (λ M g p e. e) tied-entry routed (groups plan) n
-      (rows-kept gone (λ (M : Net). planOf M) (λ M p d. refl) (unlaid P) n n) (omega arith) (omega arith))
+      (ap (λ (l : List ℕ). inRows routeNil l n n) (hold-bytes Saved (unlaid P) (planLaid plan) unlaid-held)
+      ∙ sym (rows-tied gone Planned n n (λ M p d h k e. e) routeNil bytesOf tied-route (unlaid P) n n refl (omega arith) (omega arith)))
+      ∙ sym (rows-tied blanked Planned (groups plan) n (λ M g p h k e. e) entryBlank bytesOf tied-entry routed (groups plan) n routed-plan (omega arith) (omega arith))
 
   all-route : (p d : ℕ) → p < n → d < n → all .route p d ≡ nil
   unfolding setEntry setRoute
   all-route p d h k =
-      (λ i. rows-kept blanked (λ (M : Net). M .route) (λ M g p. refl) routed (groups plan) n i p d)
-      ∙ rows-read gone (λ (M : Net). M .route) nil (λ M i j. refl) (unlaid P) n n p d h k
+      (λ i. rows-kept blanked (λ (M : Net). M .route) (groups plan) n (λ M g p h k. refl) routed (groups plan) n (omega arith) (omega arith) i p d)
+      ∙ rows-read gone Planned n n (λ M p d h k e. e) (λ (M : Net). M .route) (λ p d. nil)
+      (λ M i j e hi hj. upd2-hit (M .route) i j nil) (λ M i j p d e hi hj hp hd was. put-stays (M .route) nil i j p d was) (unlaid P) n n p d refl (omega arith) (omega arith) h k
 
   all-entry : (g p : ℕ) → g < groups plan → p < n → all .entry g p ≡ blank
   unfolding setEntry
-  all-entry g p h k = rows-read blanked (λ (M : Net). M .entry) blank (λ M i j. refl) routed (groups plan) n g p h k
+  all-entry g p h k =
+      rows-read blanked Planned (groups plan) n (λ M g p h k e. e) (λ (M : Net). M .entry) (λ g p. blank)
+      (λ M i j e hi hj. upd2-hit (M .entry) i j blank) (λ M i j p d e hi hj hp hd was. put-stays (M .entry) blank i j p d was) routed (groups plan) n g p routed-plan (omega arith) (omega arith) h k
 
   all-channel : all .channel ≡ (λ (x y : ℕ). [])
   unfolding setEntry setRoute
-  all-channel = rows-kept blanked (λ (M : Net). M .channel) (λ M g p. refl) routed (groups plan) n ∙ rows-kept gone (λ (M : Net). M .channel) (λ M p d. refl) (unlaid P) n n
+  all-channel =
+      rows-kept blanked (λ (M : Net). M .channel) (groups plan) n (λ M g p h k. refl) routed (groups plan) n (omega arith) (omega arith)
+      ∙ rows-kept gone (λ (M : Net). M .channel) n n (λ M p d h k. refl) (unlaid P) n n (omega arith) (omega arith)
 
   -- what is laid is the fresh net
   pub laid-fresh : laid plan ≡ bytesOf (fresh P)
   unfolding fresh
-  laid-fresh = laid-all ∙ bytes-same all (fresh P) all-plan
+  laid-fresh = laid-all ∙ bytes-same Saved all (fresh P) all-plan
       (λ p d h k. all-route p d (omega (arith, st)) (omega (arith, st)))
       (λ g p h k. all-entry g p (omega (arith, gr)) (omega (arith, st)))
       (λ x y h k. λ i. all-channel i x y)

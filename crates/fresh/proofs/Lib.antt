@@ -1,4 +1,2 @@
-pub mod Turns
-pub mod Folds
 pub mod Laid
 pub mod Views

@@ -2,6 +2,8 @@
 use bits::copy::put;
 use bits::number::put32;
 use bits::number::wide;
+use layout::form;
+use layout::form::Mark;
 use layout::front;
 use layout::offset;
 use protocol::Entry;
@@ -13,7 +15,8 @@ ghost use Rattle.protocol.specs.Net.{mostStations, mostGroups};
 ghost use Rattle.protocol.specs.Fresh.{blank};
 ghost use Rattle.layout.specs.Layout.{netLength, planLength, stations, groups};
 ghost use Rattle.fresh.specs.Fresh.{freshOutcome, netAfterFresh};
-ghost use Rattle.fresh.specs.inner.Laying.{inRow, inRows, routeNil, entryBlank, laid};
+ghost use Rattle.forms.specs.Folds.{inRow, inRows};
+ghost use Rattle.fresh.specs.inner.Laying.{routeNil, entryBlank, laid};
 
 // Station p has no route to any of the n stations.
 fn routes_from(net: &mut [u8], p: usize, n: usize)
@@ -52,27 +55,32 @@ fn blank() -> Entry
 }
 
 // The entry of station p in group g is blank.
-fn blank_entry(net: &mut [u8], g: usize, p: u8)
+fn blank_entry(net: &mut [u8], g: usize, p: usize)
     requires { ⌜ (length (now net) ≡ netLength) × (g < mostGroups) × (p < mostStations) ⌝ }
     ensures { λ _. ⌜ now (net .exit) ≡ entryBlank (now (net .entry)) g p ⌝ }
 {
-    let a = offset::entry_row_at(g);
-    access::change::write_entry(&mut net[a..a + offset::ENTRY_ROW_SIZE], p, blank());
+    let a = form::stretch_at(Mark::Saved, g);
+    let n = form::stretch_size(Mark::Saved);
+    access::change::write_entry(
+        &mut net[a..a + n],
+        form::in_stretch(Mark::Saved, p),
+        blank(),
+    );
 }
 
 // So are those of the n stations.
-fn entries_of(net: &mut [u8], g: usize, n: u8)
+fn entries_of(net: &mut [u8], g: usize, n: usize)
     requires { ⌜ (length (now net) ≡ netLength) × (g < mostGroups) × (n ≤ mostStations) ⌝ }
     ensures { λ _. ⌜ now (net .exit) ≡ inRow entryBlank (now (net .entry)) g n ⌝ }
 {
-    let mut p: u8 = 0;
+    let mut p = 0;
     while p < n {
         blank_entry(net, g, p);
         p += 1;
     }
 }
 
-fn entries(net: &mut [u8], groups: usize, n: u8)
+fn entries(net: &mut [u8], groups: usize, n: usize)
     requires { ⌜ (length (now net) ≡ netLength) × (groups ≤ mostGroups) × (n ≤ mostStations) ⌝ }
     ensures { λ _. ⌜ now (net .exit) ≡ inRows entryBlank (now (net .entry)) groups n ⌝ }
 {
@@ -88,11 +96,11 @@ fn lay(plan: &[u8], net: &mut [u8])
     requires { ⌜ (length (now plan) ≡ planLength) × (stations (now plan) ≤ mostStations) × (groups (now plan) ≤ mostGroups) × (length (now net) ≡ netLength) ⌝ }
     ensures { λ _. ⌜ now (net .exit) ≡ laid (now (plan .entry)) ⌝ }
 {
-    let n = front::stations(plan);
+    let n = wide(front::stations(plan));
     bits::copy::fill(net, 0);
     put(net, 0, plan);
     put32(net, 0, offset::NET_LENGTH as u32);
-    routes(net, wide(n));
+    routes(net, n);
     entries(net, wide(front::groups(plan)), n);
 }
 

@@ -35,7 +35,7 @@ use Rattle.run.proofs.Theorems.{run-shows, run-tells}
 use Rattle.listing.specs.Lines.{listing, refusedText}
 use Rattle.listing.specs.Bench.{planPart, scriptPart, storedOutcome, storedText}
 use Rattle.forms.specs.Plans.{planIn}
-use Rattle.net.proofs.Saved.{seen}
+use Rattle.net.proofs.Forms.{seen}
 
 no-messages : (P : Plan) → inChannels (fresh P) ≡ 0
 unfolding inChannels fresh
@@ -101,20 +101,20 @@ module _ (stored : List ℕ) (beyond : ℕ) where
     shows = ap view made ∙ fresh-view (planPart stored) planned .1
 
     ran-net : view l ≡ run N s .net
-    ran-net = ap view (ran .1) ∙ run-shows first s shape .1 ∙ ap (λ (M : Net). run M s .net) shows
+    ran-net = ap view (ran .1) ∙ run-shows _ first s shape .1 ∙ ap (λ (M : Net). run M s .net) shows
 
     ran-tally : x .tally ≡ run N s .tally
-    ran-tally = ap (λ (y : by-value.Answer). y .tally) (ran .0) ∙ run-tells first s shape ∙ ap (λ (M : Net). run M s .tally) shows
+    ran-tally = ap (λ (y : by-value.Answer). y .tally) (ran .0) ∙ run-tells _ first s shape ∙ ap (λ (M : Net). run M s .tally) shows
 
     -- "Messages waiting at the start plus sent equal delivered plus lost plus waiting at the end", and none wait at the start
     conserved : inChannels N + run N s .tally .sent ≡ run N s .tally .delivered + run N s .tally .lost + inChannels (run N s .net)
     unfolding run
-    conserved = run-conserves N (subst Shaped shows (seen first shape)) s (cond (eqb (scriptOutcome s) 0) (length s / 4) 0)
+    conserved = run-conserves N (subst Shaped shows (seen _ first shape)) s (cond (eqb (scriptOutcome s) 0) (length s / 4) 0)
 
     pub listed : Listed (x .tally) l
     unfolding storedText
     listed = record {
-      net = is-net l (ap shaped (ran .1) ∙ run-shows first s shape .0);
+      net = is-net _ l (ap shaped (ran .1) ∙ run-shows _ first s shape .0);
       left = rw (ran-tally, ran-net) (omega (arith, conserved, no-messages (planIn (planPart stored))));
       text = rw (accepted, ran-net, ran-tally, rest) refl;
     }

@@ -1,4 +1,4 @@
--- Bytes that are a net's: what every function that reads or changes one asks.
+-- Bytes that are a net's, in the form that they are in: what every function that reads or changes one asks.
 use mathlib.Core.Path.{_≡_}
 use mathlib.Core.Bool.{true}
 use mathlib.Core.List.{List}
@@ -6,12 +6,13 @@ use Prim.Native.Nat.{ℕ, _≤_}
 use lib.ListN.{length}
 use Rattle.protocol.specs.Net.{mostStations, mostGroups}
 use Rattle.layout.specs.Layout.{netLength, stations, groups}
-use Rattle.shape.specs.Shape.{shaped}
+use Rattle.layout.specs.Marks.{markOf}
+use Rattle.shape.specs.Shape.{shapedAs}
 use Rattle.net.specs.View.{view}
 
 -- the first field says it all; the others follow from it, and are here for the callers' arithmetic
 pub record IsNet (l : List ℕ) : Type 0 where
-  pub shape : shaped l ≡ true
+  pub shape : shapedAs (markOf l) l ≡ true
   pub long : length l ≡ netLength
   pub stationsShown : view l .stations ≡ stations l
   pub groupsShown : view l .groups ≡ groups l

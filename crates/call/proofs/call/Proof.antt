@@ -26,10 +26,10 @@ returns c = let a = c .before .before .before .before .args in
     ends-1 (a .net .now) (a .g) (a .c) (a .out .now) (sym (c .before .shaped .ensures) ∙ not-true _ (c .if1 .taken))
 
 is-group-requires : tie.Need-is-group-requires
-is-group-requires c κs = is-net _ (ok c)
+is-group-requires c κs = is-net _ _ (ok c)
 
 is-station-requires : tie.Need-is-station-requires
-is-station-requires c κs = is-net _ (ok (c .before))
+is-station-requires c κs = is-net _ _ (ok (c .before))
 
 returns-2 : tie.Need-returns-2
 returns-2 c = let x = c .before .before .before in
@@ -47,7 +47,7 @@ call-in-requires c κs = let y = c .before .before in
     let x = y .before .before .before in
     let a = x .before .before .before .before .args in
     let w = in-both (view (a .net .now)) (a .g) (a .c) (sym (both (y .before)) ∙ not-false _ (y .if2 .left)) in
-    (is-net _ (ok x), (w .0, w .1, c .before .if3 .left))
+    (is-net _ _ (ok x), (w .0, w .1, c .before .if3 .left, ok x))
 
 same-length : tie.Need-same-length
 same-length c = search needs

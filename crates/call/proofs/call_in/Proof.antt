@@ -90,13 +90,13 @@ returns c = let y = c .before .before in
     let s = start x in
     let a = s .args in
     let r : y .visit-station .result / 3 ≡ length (reach (t y)) = omega (arith, all y) in
-    ends-0 (a .net .now) (a .g) (a .c) (a .out .now) (s .pre .0 .shape) (both-in (view (a .net .now)) (a .g) (a .c) (s .pre .1 .0) (s .pre .1 .1))
+    ends-0 (a .net .now) (a .g) (a .c) (a .out .now) (s .pre .1 .3) (both-in (view (a .net .now)) (a .g) (a .c) (s .pre .1 .0) (s .pre .1 .1))
     (s .pre .1 .2) _ _ _ (on x) r (omega (arith, all y, one-more y)) (one-more y) (listed y)
 
 returns-2 : tie.Need-returns-2
 returns-2 c = let s = c .before .before .before .before in
     let a = s .args in
-    ends-8 (a .net .now) (a .g) (a .c) (a .out .now) (s .pre .0 .shape) (both-in (view (a .net .now)) (a .g) (a .c) (s .pre .1 .0) (s .pre .1 .1))
+    ends-8 (a .net .now) (a .g) (a .c) (a .out .now) (s .pre .1 .3) (both-in (view (a .net .now)) (a .g) (a .c) (s .pre .1 .0) (s .pre .1 .1))
     (s .pre .1 .2) (sym (c .before .on-tree .ensures) ∙ c .if1 .left)
 
 pub call-in-spec : {M : Type 1} → statement M

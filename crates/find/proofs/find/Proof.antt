@@ -9,7 +9,7 @@ shaped-requires : tie.Need-shaped-requires
 shaped-requires c κs = search needs
 
 find-in-requires : tie.Need-find-in-requires
-find-in-requires c κs = is-net _ (sym (c .before .shaped .ensures) ∙ c .if1 .taken)
+find-in-requires c κs = is-net _ _ (sym (c .before .shaped .ensures) ∙ c .if1 .taken)
 
 returns : tie.Need-returns
 unfolding foundIn

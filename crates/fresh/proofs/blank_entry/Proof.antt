@@ -1,5 +1,5 @@
 use mathlib.Core.Path.{ap, _∙_}
-use Prim.Native.Nat.{_+_, _*_, _-_}
+use Prim.Native.Nat.{_+_, _-_}
 use native.Mathlib.Omega.{arith}
 use Rattle.bits.specs.Parts.{splice}
 use Rattle.bits.proofs.Parts.{back, lent-back}
@@ -10,8 +10,11 @@ use borrow.Author.Needs.{needs}
 use Rattle.fresh.proofs.blank_entry.Statement.{statement}
 use Rattle.fresh.proofs.blank_entry.Tie as tie
 
-entry-row-at-requires : tie.Need-entry-row-at-requires
-entry-row-at-requires c κs = search needs
+stretch-at-requires : tie.Need-stretch-at-requires
+stretch-at-requires c κs = search needs
+
+stretch-size-requires : tie.Need-stretch-size-requires
+stretch-size-requires c κs = search needs
 
 add-write-entry : tie.Need-add-write-entry
 add-write-entry c = search needs
@@ -25,6 +28,9 @@ part-write-entry-start c = search needs
 part-write-entry-end : tie.Need-part-write-entry-end
 part-write-entry-end c = search needs
 
+in-stretch-requires : tie.Need-in-stretch-requires
+in-stretch-requires c κs = search needs
+
 blank-requires : tie.Need-blank-requires
 blank-requires c κs = search needs
 
@@ -36,22 +42,30 @@ same-length c = search needs
 
 returns : tie.Need-returns
 unfolding entryBlank
-returns c = let l = c .before .before .before .before .before .before .before .args .net .now in
-    let p = c .before .before .before .before .before .before .before .args .p in
-    let a = c .before .before .before .before .before .entry-row-at .result in
-    ap (back a (a + 192 - a) l) (c .before .before .write-entry .ensures)
-    ∙ lent-back a (a + 192 - a) l (12 * p) (entryBytes (c .before .before .before .blank .result)) (omega (arith, length-entryBytes (c .before .before .before .blank .result)))
-    ∙ (λ i. splice l (c .before .before .before .before .before .entry-row-at .ensures .0 i + 12 * p) (entryBytes (c .before .before .before .blank .ensures i)))
+returns c = let w = c .before .before in
+    let b = w .before in
+    let k = b .before in
+    let z = k .before .before in
+    let x = z .before in
+    let l = x .before .before .args .net .now in
+    let a = x .stretch-at .result in
+    let n = z .stretch-size .result in
+    let e = entryBytes (b .blank .result) in
+    ap (back a (a + n - a) l) (w .write-entry .ensures)
+    ∙ lent-back a (a + n - a) l (k .in-stretch .result) e (omega (arith, length-entryBytes (b .blank .result), z .stretch-size .ensures, k .in-stretch .ensures .1))
+    ∙ (λ i. splice l (x .stretch-at .ensures .0 i + k .in-stretch .ensures .0 i) (entryBytes (b .blank .ensures i)))
 
 pub blank-entry-spec : {M : Type 1} → statement M
 blank-entry-spec =
     tie.close
     (tie.spec
-    entry-row-at-requires
+    stretch-at-requires
+    stretch-size-requires
     add-write-entry
     sub-write-entry
     part-write-entry-start
     part-write-entry-end
+    in-stretch-requires
     blank-requires
     write-entry-requires
     same-length

@@ -3,8 +3,9 @@ use Prim.Native.Nat.{_≤_, _-_}
 use native.Mathlib.Omega.{arith}
 use lib.ListN.{length, set, length-set}
 use Rattle.bits.specs.Parts.{splice}
-use Rattle.fresh.specs.inner.Laying.{inRow, routeNil}
-use Rattle.fresh.proofs.Turns.{row-turn}
+use Rattle.forms.specs.Folds.{inRow}
+use Rattle.fresh.specs.inner.Laying.{routeNil}
+use Rattle.forms.proofs.Turns.{row-turn}
 use Rattle.fresh.proofs.routes_from.Statement.{statement}
 use Rattle.fresh.proofs.routes_from.Tie as tie
 

@@ -12,7 +12,7 @@ use Rattle.visit.proofs.Climbs.{past-last}
 use borrow.Author.Needs.{needs}
 use Rattle.visit.proofs.agree.Statement.{statement}
 use Rattle.visit.proofs.agree.Tie as tie
-use Rattle.net.proofs.Saved.{seen}
+use Rattle.net.proofs.Forms.{seen}
 
 is-station-requires : tie.Need-is-station-requires
 is-station-requires c κs = search needs
@@ -37,7 +37,7 @@ returns c = let a = c .before .before .before .before .before .before .before .a
 returns-2 : tie.Need-returns-2
 unfolding station?
 returns-2 c = let a = c .before .before .before .args in
-    past-last (view (a .net .now)) (seen _ (c .before .before .before .pre .0 .shape)) (a .g) (a .p) (a .j) (ltb-false _ _ (sym (c .before .is-station .ensures) ∙ c .if1 .left))
+    past-last (view (a .net .now)) (seen _ _ (c .before .before .before .pre .0 .shape)) (a .g) (a .p) (a .j) (ltb-false _ _ (sym (c .before .is-station .ensures) ∙ c .if1 .left))
 
 pub agree-spec : {M : Type 1} → statement M
 agree-spec =

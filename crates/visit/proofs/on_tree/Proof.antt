@@ -8,7 +8,7 @@ use Rattle.tree.specs.Tree.{Tree, climbs, onTree}
 use Rattle.protocol.specs.Calls.{treeOf}
 use Rattle.net.specs.View.{view}
 use Rattle.visit.proofs.Climbs.{climb-none, climb-root, climb-up, climb-off, agreed-station}
-use Rattle.net.proofs.Saved.{seen}
+use Rattle.net.proofs.Forms.{seen}
 use Rattle.visit.proofs.on_tree.Statement.{statement}
 use Rattle.visit.proofs.on_tree.Tie as tie
 
@@ -74,7 +74,7 @@ loop-again c = let y = c .before .before .before in
     let s = start x in
     let up = ap (λ (e : Entry). e .parent) (c .before .before .entry-of .ensures) in
     let agreed = sym (c .before .agree .ensures) ∙ not-false _ (c .if2 .left) in (
-      agreed-station (view (s .args .net .now)) (seen _ (s .pre .0 .shape)) (s .args .g) _ (x .loop .x) agreed,
+      agreed-station (view (s .args .net .now)) (seen _ _ (s .pre .0 .shape)) (s .args .g) _ (x .loop .x) agreed,
       x .loop .inv .1 ∙ climb-up (t x) (x .loop .hops) (x .loop .x) _ (y .before .loop-test .taken) (on-the-way y) up agreed,
     )
 

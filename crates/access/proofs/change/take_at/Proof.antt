@@ -10,7 +10,7 @@ use Rattle.channel.specs.inner.Channels.{IsChannel}
 use Rattle.layout.specs.Layout.{channelSize, channelAt}
 use Rattle.net.specs.View.{view}
 use Rattle.access.proofs.Laws.{channel-lent, channel-back}
-use Rattle.net.proofs.Saved.{seen}
+use Rattle.net.proofs.Forms.{seen}
 use borrow.Author.Needs.{needs}
 use Rattle.access.proofs.change.take_at.Statement.{statement}
 use Rattle.access.proofs.change.take_at.Tie as tie
@@ -70,7 +70,7 @@ returns c = let x = c .before .before .before .before .before in
     ap (λ (ys : List ℕ). back (x .channel-at .result) (x .channel-at .result + channelSize - x .channel-at .result) (a .net .now) ys)
     (c .before .before .remove-at .ensures ∙ (λ j. channelBytes (removeAt (c .before .before .before .wide3 .ensures .0 j) (channel-is x .1 j))))
     ∙ channel-back (a .net .now) (s .pre .0) (a .s) (a .d) _ (s .pre .1 .0) (s .pre .1 .1) (at-channel x) (removeAt (a .i) ms)
-    (omega (arith, length-remove (a .i) ms, seen _ (s .pre .0 .shape) .channels (a .s) (a .d) .atMost))
+    (omega (arith, length-remove (a .i) ms, seen _ _ (s .pre .0 .shape) .channels (a .s) (a .d) .atMost))
 
 pub take-at-spec : {M : Type 1} → statement M
 take-at-spec =

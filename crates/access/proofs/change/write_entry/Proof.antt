@@ -1,39 +1,30 @@
-use mathlib.Core.Path.{_≡_}
-use Prim.Native.Nat.{_*_}
 use native.Mathlib.Omega.{arith}
 use lib.ListN.{length-set}
-use Rattle.layout.specs.Layout.{entrySize}
 use Rattle.net.proofs.Records.{stores}
 use borrow.Author.Needs.{needs}
 use Rattle.access.proofs.change.write_entry.Statement.{statement}
 use Rattle.access.proofs.change.write_entry.Tie as tie
 
-wide-requires : tie.Need-wide-requires
-wide-requires c κs = search needs
+slice-write-stretch : tie.Need-slice-write-stretch
+slice-write-stretch c = search needs
 
-mul-at : tie.Need-mul-at
-mul-at c = search needs
+add-stretch : tie.Need-add-stretch
+add-stretch c = search needs
 
-slice-write-row : tie.Need-slice-write-row
-slice-write-row c = search needs
+slice-write-stretch-2 : tie.Need-slice-write-stretch-2
+slice-write-stretch-2 c = simp length-set (omega arith)
 
-add-row : tie.Need-add-row
-add-row c = search needs
+add-stretch-2 : tie.Need-add-stretch-2
+add-stretch-2 c = search needs
 
-slice-write-row-2 : tie.Need-slice-write-row-2
-slice-write-row-2 c = simp length-set (omega arith)
+slice-write-stretch-3 : tie.Need-slice-write-stretch-3
+slice-write-stretch-3 c = simp length-set (omega arith)
 
-add-row-2 : tie.Need-add-row-2
-add-row-2 c = search needs
+add-stretch-3 : tie.Need-add-stretch-3
+add-stretch-3 c = search needs
 
-slice-write-row-3 : tie.Need-slice-write-row-3
-slice-write-row-3 c = simp length-set (omega arith)
-
-add-row-3 : tie.Need-add-row-3
-add-row-3 c = search needs
-
-slice-write-row-4 : tie.Need-slice-write-row-4
-slice-write-row-4 c = simp length-set (omega arith)
+slice-write-stretch-4 : tie.Need-slice-write-stretch-4
+slice-write-stretch-4 c = simp length-set (omega arith)
 
 add-put32 : tie.Need-add-put32
 add-put32 c = search needs
@@ -63,24 +54,20 @@ returns : tie.Need-returns
 returns c = let y = c .before .before in
     let x = y .before .before .before .before in
     let u = x .before .before .before .before in
-    let w = u .before .before in
-    let a = w .before .before .args in
-    let p : w .wide .result ≡ a .p = w .wide .ensures .0 in
-    cc (stores (a .row .now) (entrySize * w .wide .result) (a .e), u .put32 .ensures, x .put16 .ensures, y .put162 .ensures)
+    let a = u .before .before .before .args in
+    cc (stores (a .stretch .now) (a .at) (a .e), u .put32 .ensures, x .put16 .ensures, y .put162 .ensures)
 
 pub write-entry-spec : {M : Type 1} → statement M
 write-entry-spec =
     tie.close
     (tie.spec
-    wide-requires
-    mul-at
-    slice-write-row
-    add-row
-    slice-write-row-2
-    add-row-2
-    slice-write-row-3
-    add-row-3
-    slice-write-row-4
+    slice-write-stretch
+    add-stretch
+    slice-write-stretch-2
+    add-stretch-2
+    slice-write-stretch-3
+    add-stretch-3
+    slice-write-stretch-4
     add-put32
     put32-requires
     add-put16

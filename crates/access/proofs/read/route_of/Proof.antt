@@ -4,7 +4,7 @@ use Rattle.layout.specs.Layout.{byte, routeAt}
 use borrow.Author.Needs.{needs}
 use Rattle.access.proofs.read.route_of.Statement.{statement}
 use Rattle.access.proofs.read.route_of.Tie as tie
-use Rattle.net.proofs.Saved.{view-route}
+use Rattle.net.proofs.Forms.{view-route}
 
 wide-requires : tie.Need-wide-requires
 wide-requires c κs = search needs
