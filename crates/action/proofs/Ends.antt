@@ -11,7 +11,7 @@ use Rattle.protocol.specs.Rules.{Rule, oneSent, room?}
 use Rattle.protocol.specs.Steps.{verdict}
 use Rattle.protocol.proofs.steps.Steps.{Passed}
 use Rattle.net.specs.View.{view}
-use Rattle.net.specs.Encode.{bytesOf}
+use Rattle.net.specs.Encode.{bytesLike}
 use Rattle.action.specs.declared.Answer.{Answer}
 use Rattle.action.specs.inner.Ends.{refusedWith, acceptedWith, actionAnswer, netAfterAction, ActionEnd, MayPost, RequestEnd}
 
@@ -32,7 +32,7 @@ module _ (R : Rule Net) (l : List ℕ) where
   unfolding verdict actionAnswer netAfterAction
   ends-6 e a b c d = record { answer = e ∙ rw (a, b, c, d); bytes = rw (a, b, c, d) }
 
-  pub ends-0 : {r : Answer} {l' : List ℕ} → r ≡ acceptedWith (R .traffic) → Passed R → l' ≡ bytesOf (R .next) → ActionEnd R l r l'
+  pub ends-0 : {r : Answer} {l' : List ℕ} → r ≡ acceptedWith (R .traffic) → Passed R → l' ≡ bytesLike l (R .next) → ActionEnd R l r l'
   unfolding verdict actionAnswer netAfterAction
   ends-0 e P b =
       record {
@@ -69,5 +69,5 @@ module _ (l : List ℕ) (g p : ℕ) (e : Entry) (q : ℕ) where
   pub full : {r : Answer} → room? (view l) p q ≡ false → r ≡ refusedWith 6 → RequestEnd l g p e q r l
   full f a = record { answer = a ∙ rw f; bytes = rw f }
 
-  pub posted : {r : Answer} {l' : List ℕ} → room? (view l) p q ≡ true → r ≡ acceptedWith oneSent → l' ≡ bytesOf (send (setEntry (view l) g p e) p q (requestOf g)) → RequestEnd l g p e q r l'
+  pub posted : {r : Answer} {l' : List ℕ} → room? (view l) p q ≡ true → r ≡ acceptedWith oneSent → l' ≡ bytesLike l (send (setEntry (view l) g p e) p q (requestOf g)) → RequestEnd l g p e q r l'
   posted t a b = record { answer = a ∙ rw t; bytes = b ∙ rw t }

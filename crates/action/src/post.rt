@@ -9,7 +9,7 @@ ghost use mathlib.Core.Bool.{true};
 ghost use Rattle.protocol.specs.Net.{Net, setEntry, send};
 ghost use Rattle.protocol.specs.Rules.{room?};
 ghost use Rattle.net.specs.View.{view};
-ghost use Rattle.net.specs.Encode.{bytesOf};
+ghost use Rattle.net.specs.Encode.{bytesLike};
 ghost use Rattle.access.specs.inner.Nets.{IsNet};
 ghost use Rattle.action.specs.inner.Ends.{MayPost, RequestEnd};
 
@@ -18,7 +18,7 @@ pub fn post(net: &mut [u8], g: u8, p: u8, e: Entry, q: u8, m: Message)
     requires { ⌜ IsNet (now net) ⌝ }
     requires { ⌜ MayPost (view (now net)) g p e q ⌝ }
     requires { ⌜ room? (view (now net)) p q ≡ true ⌝ }
-    ensures { λ _. ⌜ now (net .exit) ≡ bytesOf (send (setEntry (view (now (net .entry))) g p e) p q m) ⌝ }
+    ensures { λ _. ⌜ now (net .exit) ≡ bytesLike (now (net .entry)) (send (setEntry (view (now (net .entry))) g p e) p q m) ⌝ }
 {
     access::change::set_entry(net, g, p, e);
     access::change::send(net, p, q, m);

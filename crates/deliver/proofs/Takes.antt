@@ -12,9 +12,9 @@ use Rattle.protocol.specs.Shaped.{Shaped}
 use Rattle.protocol.proofs.shape.Actions.{near-cable, oldest-shaped, answer-entry, taken-room}
 use Rattle.protocol.proofs.shape.Changes.{take-shaped}
 use Rattle.net.specs.View.{view}
-use Rattle.net.specs.Encode.{bytesOf}
+use Rattle.net.specs.Encode.{bytesLike}
 use Rattle.access.specs.inner.Nets.{IsNet}
-use Rattle.access.proofs.Laws.{is-net-of}
+use Rattle.access.proofs.Laws.{is-net-after}
 use Rattle.action.specs.inner.Ends.{MayPost}
 use Rattle.deliver.specs.inner.MayDeliver.{MayDeliver}
 
@@ -28,8 +28,8 @@ module _ (N : Net) (H : Shaped N) (s d : ℕ) (O : MayDeliver N s d) where
   pub grouped : (g : ℕ) → g ≡ oldest (N .channel) s d .group → g < N .groups
   grouped g i = rw i (oldest-shaped N H s d (O .some) .grouped)
 
-  pub taken : (l : List ℕ) → l ≡ bytesOf (takeAt N s d 0) → (IsNet l) × (view l ≡ takeAt N s d 0)
-  taken l = is-net-of (takeAt N s d 0) l (take-shaped N H s d 0)
+  pub taken : (l l' : List ℕ) → l' ≡ bytesLike l (takeAt N s d 0) → (IsNet l') × (view l' ≡ takeAt N s d 0) × ((M : Net) → bytesLike l' M ≡ bytesLike l M)
+  taken l l' = is-net-after l (takeAt N s d 0) l' (take-shaped N H s d 0)
 
   -- the receiver of a request lists the sender, and may reply
   pub may-reply : (g : ℕ) (e : Entry) → g ≡ oldest (N .channel) s d .group → e ≡ withChild (N .entry g d) s → MayPost (takeAt N s d 0) g d e s

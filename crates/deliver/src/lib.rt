@@ -11,7 +11,7 @@ ghost use Rattle.protocol.specs.Net.{Net, takeAt};
 ghost use Rattle.protocol.specs.Rules.{oldest, room?, answered, heard};
 ghost use Rattle.protocol.specs.Rules as rule;
 ghost use Rattle.net.specs.View.{view};
-ghost use Rattle.net.specs.Encode.{bytesOf};
+ghost use Rattle.net.specs.Encode.{bytesLike};
 ghost use Rattle.access.specs.inner.Nets.{IsNet};
 ghost use Rattle.action.specs.inner.Ends.{ActionEnd};
 ghost use Rattle.deliver.specs.inner.MayDeliver.{MayDeliver};
@@ -21,7 +21,7 @@ fn answer(net: &mut [u8], s: u8, d: u8, g: u8)
     requires { ⌜ IsNet (now net) ⌝ }
     requires { ⌜ MayDeliver (view (now net)) s d ⌝ }
     requires { ⌜ (g ≡ oldest (view (now net) .channel) s d .group) × (room? (view (now net)) d s ≡ true) ⌝ }
-    ensures { λ _. ⌜ now (net .exit) ≡ bytesOf (answered (takeAt (view (now (net .entry))) s d 0) g s d) ⌝ }
+    ensures { λ _. ⌜ now (net .exit) ≡ bytesLike (now (net .entry)) (answered (takeAt (view (now (net .entry))) s d 0) g s d) ⌝ }
 {
     let root = access::read::root_of(net, g);
     let e = entries::with_child(access::read::entry_of(net, g, d), s);
@@ -34,7 +34,7 @@ fn hear(net: &mut [u8], s: u8, d: u8, m: Message)
     requires { ⌜ IsNet (now net) ⌝ }
     requires { ⌜ MayDeliver (view (now net)) s d ⌝ }
     requires { ⌜ m ≡ oldest (view (now net) .channel) s d ⌝ }
-    ensures { λ _. ⌜ now (net .exit) ≡ bytesOf (heard (takeAt (view (now (net .entry))) s d 0) s d m) ⌝ }
+    ensures { λ _. ⌜ now (net .exit) ≡ bytesLike (now (net .entry)) (heard (takeAt (view (now (net .entry))) s d 0) s d m) ⌝ }
 {
     let g = m.group;
     let e = entries::hearing(access::read::entry_of(net, g, d), s, m);

@@ -12,7 +12,7 @@ use Rattle.protocol.specs.Rules.{Traffic, Rule, oneSent, room?}
 use Rattle.protocol.specs.Steps.{verdict}
 use Rattle.protocol.specs.Shaped.{Shaped}
 use Rattle.net.specs.View.{view}
-use Rattle.net.specs.Encode.{bytesOf}
+use Rattle.net.specs.Encode.{bytesLike}
 use Rattle.action.specs.declared.Answer.{Answer}
 
 abbrev pub refusedWith : ℕ → Answer
@@ -25,7 +25,7 @@ unfoldable pub actionAnswer : Rule Net → Answer
 actionAnswer R = cond (eqb (verdict R) 0) (acceptedWith (R .traffic)) (refusedWith (verdict R))
 
 unfoldable pub netAfterAction : Rule Net → List ℕ → List ℕ
-netAfterAction R l = cond (eqb (verdict R) 0) (bytesOf (R .next)) l
+netAfterAction R l = cond (eqb (verdict R) 0) (bytesLike l (R .next)) l
 
 pub record ActionEnd (R : Rule Net) (l : List ℕ) (r : Answer) (l' : List ℕ) : Type 0 where
   pub answer : r ≡ actionAnswer R
@@ -41,4 +41,4 @@ pub record MayPost (N : Net) (g p : ℕ) (e : Entry) (q : ℕ) : Type 0 where
 -- station p puts the entry e and sends a request to q, if there is room
 pub record RequestEnd (l : List ℕ) (g p : ℕ) (e : Entry) (q : ℕ) (r : Answer) (l' : List ℕ) : Type 0 where
   pub answer : r ≡ cond (room? (view l) p q) (acceptedWith oneSent) (refusedWith 6)
-  pub bytes : l' ≡ cond (room? (view l) p q) (bytesOf (send (setEntry (view l) g p e) p q (requestOf g))) l
+  pub bytes : l' ≡ cond (room? (view l) p q) (bytesLike l (send (setEntry (view l) g p e) p q (requestOf g))) l

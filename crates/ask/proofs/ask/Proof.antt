@@ -12,7 +12,7 @@ use Rattle.protocol.specs.Rules as rule
 use Rattle.protocol.specs.Shaped.{Shaped}
 use Rattle.protocol.proofs.shape.Actions.{cable, ask-near, ask-entry}
 use Rattle.net.specs.View.{view}
-use Rattle.net.proofs.Saved.{seen}
+use Rattle.net.proofs.Forms.{seen}
 use Rattle.action.proofs.Ends.{ends-3, ends-4, may-post, requests, ends-request}
 use borrow.Author.Needs.{needs}
 use Rattle.ask.proofs.ask.Statement.{statement}
@@ -25,7 +25,7 @@ abbrev R : tie.Start → Rule Net
 R s = rule.ask (N s) (s .args .g) (s .args .p) (s .args .c)
 
 H : (s : tie.Start) → Shaped (N s)
-H s = seen _ (s .pre .shape)
+H s = seen _ _ (s .pre .shape)
 
 -- the operands are in range
 operands : (x : tie.Else1) → R (x .before .before .before .before) .operands ≡ true

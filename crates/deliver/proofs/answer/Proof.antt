@@ -8,8 +8,8 @@ use Rattle.protocol.specs.Entries.{withChild, replyOf}
 use Rattle.protocol.specs.Rules.{room?, answered}
 use Rattle.protocol.specs.Shaped.{Shaped}
 use Rattle.net.specs.View.{view}
-use Rattle.net.specs.Encode.{bytesOf}
-use Rattle.net.proofs.Saved.{seen}
+use Rattle.net.specs.Encode.{bytesLike}
+use Rattle.net.proofs.Forms.{seen}
 use Rattle.access.specs.inner.Nets.{IsNet}
 use Rattle.action.specs.inner.Ends.{MayPost}
 use Rattle.deliver.proofs.Takes.{sender, receiver, grouped, taken, room-kept, may-reply}
@@ -21,7 +21,7 @@ abbrev N : tie.Start → Net
 N s = view (s .args .net .now)
 
 H : (s : tie.Start) → Shaped (N s)
-H s = seen _ (s .pre .0 .shape)
+H s = seen _ _ (s .pre .0 .shape)
 
 in-groups : (s : tie.Start) → s .args .g < N s .groups
 in-groups s = grouped (N s) (H s) (s .args .s) (s .args .d) (s .pre .1 .0) (s .args .g) (s .pre .1 .1 .0)
@@ -33,8 +33,9 @@ to : (s : tie.Start) → s .args .d < N s .stations
 to s = receiver (N s) (H s) (s .args .s) (s .args .d) (s .pre .1 .0)
 
 -- the bytes once the message is taken out
-out : (x : tie.After-take-at) → let s = x .before .before .before .before .before .before .before .before in (IsNet (x .take-at .last .0)) × (view (x .take-at .last .0) ≡ takeAt (N s) (s .args .s) (s .args .d) 0)
-out x = let s = x .before .before .before .before .before .before .before .before in taken (N s) (H s) (s .args .s) (s .args .d) (s .pre .1 .0) _ (x .take-at .ensures)
+out : (x : tie.After-take-at) → let s = x .before .before .before .before .before .before .before .before in let l = x .take-at .last .0 in
+    (IsNet l) × (view l ≡ takeAt (N s) (s .args .s) (s .args .d) 0) × ((M : Net) → bytesLike l M ≡ bytesLike (s .args .net .now) M)
+out x = let s = x .before .before .before .before .before .before .before .before in taken (N s) (H s) (s .args .s) (s .args .d) (s .pre .1 .0) _ _ (x .take-at .ensures)
 
 -- the receiver's entry, with the sender among its children
 entry : (x : tie.After-with-child) → let s = x .before .before .before .before .before .before in x .with-child .result ≡ withChild (N s .entry (s .args .g) (s .args .d)) (s .args .s)
@@ -72,7 +73,7 @@ returns c = let x = c .before .before .before .before .before .before .before in
     let y = x .before .before in
     let s = x .before .before .before .before .before .before .before .before in
     let m = c .before .before .before .reply-of .ensures ∙ (λ i. replyOf (s .args .g) (y .before .before .before .root-of .ensures .0 i) (s .args .d) (entry y i)) in
-    c .before .before .post .ensures ∙ (λ i. bytesOf (send (setEntry (out x .1 i) (s .args .g) (s .args .d) (entry y i)) (s .args .d) (s .args .s) (m i)))
+    c .before .before .post .ensures ∙ out x .2 _ ∙ (λ i. bytesLike (s .args .net .now) (send (setEntry (out x .1 i) (s .args .g) (s .args .d) (entry y i)) (s .args .d) (s .args .s) (m i)))
 
 pub answer-spec : {M : Type 1} → statement M
 answer-spec =

@@ -10,7 +10,7 @@ use Rattle.protocol.specs.Net.{Net, takeAt, near?}
 use Rattle.protocol.specs.Rules.{Rule, oldest, room?, answered, heard}
 use Rattle.protocol.specs.Rules as rule
 use Rattle.net.specs.View.{view}
-use Rattle.net.specs.Encode.{bytesOf}
+use Rattle.net.specs.Encode.{bytesLike}
 use Rattle.action.proofs.Ends.{ends-3, ends-4, ends-6}
 use Rattle.deliver.specs.inner.MayDeliver.{MayDeliver}
 use Rattle.deliver.proofs.Delivers.{request-ends, reply-ends}
@@ -118,7 +118,7 @@ returns-4 c = let w = c .before .before .before .before .before in
     let y = z .before .before in
     let s = y .before .before .before .before .before .before .before in
     request-ends (N s) _ (s .args .s) (s .args .d) (s .args .c) (operands (y .before .before .before)) (enabled y) (sym (kind z) ∙ w .before .before .before .if3 .taken) (room w)
-    (c .accepted .ensures) (c .before .before .before .answer .ensures ∙ (λ i. bytesOf (answered (takeAt (N s) (s .args .s) (s .args .d) 0) (z .oldest .ensures i .group) (s .args .s) (s .args .d))))
+    (c .accepted .ensures) (c .before .before .before .answer .ensures ∙ (λ i. bytesLike (s .args .net .now) (answered (takeAt (N s) (s .args .s) (s .args .d) 0) (z .oldest .ensures i .group) (s .args .s) (s .args .d))))
 
 hear-requires : tie.Need-hear-requires
 hear-requires c κs = let z = c .before .before .before in
@@ -136,7 +136,7 @@ returns-5 c = let z = c .before .before .before .before .before .before .before 
     let y = z .before .before in
     let s = y .before .before .before .before .before .before .before in
     reply-ends (N s) _ (s .args .s) (s .args .d) (s .args .c) (operands (y .before .before .before)) (enabled y) (λ i. c .before .before .before .before .before .if3 .left (kind z ∙ i))
-    (c .accepted2 .ensures) (c .before .before .before .hear .ensures ∙ ap (λ (m : Message). bytesOf (heard (takeAt (N s) (s .args .s) (s .args .d) 0) (s .args .s) (s .args .d) m)) (z .oldest .ensures))
+    (c .accepted2 .ensures) (c .before .before .before .hear .ensures ∙ ap (λ (m : Message). bytesLike (s .args .net .now) (heard (takeAt (N s) (s .args .s) (s .args .d) 0) (s .args .s) (s .args .d) m)) (z .oldest .ensures))
 
 pub deliver-spec : {M : Type 1} → statement M
 deliver-spec =

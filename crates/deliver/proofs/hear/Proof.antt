@@ -7,8 +7,8 @@ use Rattle.protocol.specs.Entries.{hearing}
 use Rattle.protocol.specs.Rules.{heard}
 use Rattle.protocol.specs.Shaped.{Shaped}
 use Rattle.net.specs.View.{view}
-use Rattle.net.specs.Encode.{bytesOf}
-use Rattle.net.proofs.Saved.{seen}
+use Rattle.net.specs.Encode.{bytesLike}
+use Rattle.net.proofs.Forms.{seen}
 use Rattle.access.specs.inner.Nets.{IsNet}
 use Rattle.deliver.proofs.Takes.{sender, receiver, grouped, taken}
 use borrow.Author.Needs.{needs}
@@ -19,7 +19,7 @@ abbrev N : tie.Start → Net
 N s = view (s .args .net .now)
 
 H : (s : tie.Start) → Shaped (N s)
-H s = seen _ (s .pre .0 .shape)
+H s = seen _ _ (s .pre .0 .shape)
 
 in-groups : (s : tie.Start) → s .args .m .group < N s .groups
 in-groups s = grouped (N s) (H s) (s .args .s) (s .args .d) (s .pre .1 .0) (s .args .m .group) (λ i. s .pre .1 .1 i .group)
@@ -31,8 +31,9 @@ to : (s : tie.Start) → s .args .d < N s .stations
 to s = receiver (N s) (H s) (s .args .s) (s .args .d) (s .pre .1 .0)
 
 -- the bytes once the message is taken out
-out : (x : tie.After-take-at) → let s = x .before .before .before .before .before .before in (IsNet (x .take-at .last .0)) × (view (x .take-at .last .0) ≡ takeAt (N s) (s .args .s) (s .args .d) 0)
-out x = let s = x .before .before .before .before .before .before in taken (N s) (H s) (s .args .s) (s .args .d) (s .pre .1 .0) _ (x .take-at .ensures)
+out : (x : tie.After-take-at) → let s = x .before .before .before .before .before .before in let l = x .take-at .last .0 in
+    (IsNet l) × (view l ≡ takeAt (N s) (s .args .s) (s .args .d) 0) × ((M : Net) → bytesLike l M ≡ bytesLike (s .args .net .now) M)
+out x = let s = x .before .before .before .before .before .before in taken (N s) (H s) (s .args .s) (s .args .d) (s .pre .1 .0) _ _ (x .take-at .ensures)
 
 entry-of-requires : tie.Need-entry-of-requires
 entry-of-requires c κs = let s = c .before .before in (s .pre .0, (in-groups s, to s))
@@ -58,7 +59,7 @@ returns c = let x = c .before .before .before .before .before .before in
     let y = x .before .before in
     let s = x .before .before .before .before .before .before in
     let e = y .hearing .ensures ∙ ap (λ (e : Entry). hearing e (s .args .s) (s .args .m)) (y .before .entry-of .ensures) in
-    c .before .before .set-entry .ensures ∙ (λ i. bytesOf (setEntry (out x .1 i) (s .args .m .group) (s .args .d) (e i)))
+    c .before .before .set-entry .ensures ∙ out x .2 _ ∙ (λ i. bytesLike (s .args .net .now) (setEntry (out x .1 i) (s .args .m .group) (s .args .d) (e i)))
 
 pub hear-spec : {M : Type 1} → statement M
 hear-spec =

@@ -9,7 +9,7 @@ use Rattle.protocol.specs.Entries.{withoutChild, stayOrLeave}
 use Rattle.protocol.specs.Rules.{Rule}
 use Rattle.protocol.specs.Rules as rule
 use Rattle.net.specs.View.{view}
-use Rattle.net.specs.Encode.{bytesOf}
+use Rattle.net.specs.Encode.{bytesLike}
 use Rattle.action.proofs.Ends.{ends-3, ends-4, ends-0}
 use borrow.Author.Needs.{needs}
 use Rattle.drop_child.proofs.drop_child.Statement.{statement}
@@ -94,7 +94,7 @@ returns-3 c = let z = c .before .before .before .before in
     let y = z .before .before .before .before .before .before .before in
     let s = y .before .before .before .before .before .before .before in
     ends-0 _ _ (c .accepted .ensures) (record { operands = operands (y .before .before .before); enabled = enabled y; clockRoom = refl; sendRoom = refl })
-    (c .before .before .before .set-entry .ensures ∙ ap (λ (e : Entry). bytesOf (setEntry (N s) (s .args .g) (s .args .p) e)) (entry z))
+    (c .before .before .before .set-entry .ensures ∙ ap (λ (e : Entry). bytesLike (s .args .net .now) (setEntry (N s) (s .args .g) (s .args .p) e)) (entry z))
 
 pub drop-child-spec : {M : Type 1} → statement M
 drop-child-spec =

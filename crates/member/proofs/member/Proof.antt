@@ -8,7 +8,7 @@ use Rattle.protocol.specs.Entries.{withMember, stayOrLeave}
 use Rattle.protocol.specs.Rules.{Rule}
 use Rattle.protocol.specs.Rules as rule
 use Rattle.net.specs.View.{view}
-use Rattle.net.specs.Encode.{bytesOf}
+use Rattle.net.specs.Encode.{bytesLike}
 use Rattle.action.proofs.Ends.{ends-3, ends-0}
 use borrow.Author.Needs.{needs}
 use Rattle.member.proofs.member.Statement.{statement}
@@ -76,7 +76,7 @@ returns-2 c = let z = c .before .before .before .before in
     let x = z .before .before .before .before .before .before .before in
     let s = x .before .before .before .before in
     ends-0 _ _ (c .accepted .ensures) (record { operands = operands x; enabled = refl; clockRoom = refl; sendRoom = refl })
-    (c .before .before .before .set-entry .ensures ∙ ap (λ (e : Entry). bytesOf (setEntry (N s) (s .args .g) (s .args .p) e)) (entry z))
+    (c .before .before .before .set-entry .ensures ∙ ap (λ (e : Entry). bytesLike (s .args .net .now) (setEntry (N s) (s .args .g) (s .args .p) e)) (entry z))
 
 pub member-spec : {M : Type 1} → statement M
 member-spec =

@@ -9,7 +9,7 @@ use Rattle.protocol.specs.Entries.{ticked}
 use Rattle.protocol.specs.Rules.{Rule}
 use Rattle.protocol.specs.Rules as rule
 use Rattle.net.specs.View.{view}
-use Rattle.net.specs.Encode.{bytesOf}
+use Rattle.net.specs.Encode.{bytesLike}
 use Rattle.action.proofs.Ends.{ends-3, ends-5, ends-0}
 use borrow.Author.Needs.{needs}
 use Rattle.tick.proofs.tick.Statement.{statement}
@@ -93,7 +93,7 @@ returns-3 c = let y = c .before .before .before .before .before .before .before 
     ends-0 _ _ (c .accepted .ensures)
     (record { operands = operands x; enabled = refl; clockRoom = clock-room y ∙ lt-ltb _ _ (c .before .before .before .before .before .before .if2 .left); sendRoom = refl })
     (c .before .before .before .set-entry .ensures
-    ∙ (λ i. bytesOf (setEntry (N s) (s .args .g) (y .before .before .root-of .ensures .0 i) ((c .before .before .before .before .ticked .ensures ∙ ap ticked (entry y)) i))))
+    ∙ (λ i. bytesLike (s .args .net .now) (setEntry (N s) (s .args .g) (y .before .before .root-of .ensures .0 i) ((c .before .before .before .before .ticked .ensures ∙ ap ticked (entry y)) i))))
 
 pub tick-spec : {M : Type 1} → statement M
 tick-spec =

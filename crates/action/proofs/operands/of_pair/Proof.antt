@@ -1,7 +1,7 @@
 use mathlib.Core.Bool.{Bool, _&&_}
 use mathlib.Core.Path.{_≡_, sym, _∙_}
 use Rattle.net.specs.View.{view}
-use Rattle.net.proofs.Saved.{seen}
+use Rattle.net.proofs.Forms.{seen}
 use Rattle.action.proofs.InRange.{pair-in}
 use borrow.Author.Needs.{needs}
 use Rattle.action.proofs.operands.of_pair.Statement.{statement}
@@ -16,7 +16,7 @@ near-requires c κs = search needs
 returns : tie.Need-returns
 returns c = let a = c .before .before .before .args in
     let e : _≡_ {A = Bool} _ _ = λ i. c .before .is-group .ensures i && c .near .ensures i in
-    (e, λ t. pair-in (view (a .net .now)) (seen _ (c .before .before .before .pre .shape)) (a .g) (a .p) (a .q) (sym e ∙ t))
+    (e, λ t. pair-in (view (a .net .now)) (seen _ _ (c .before .before .before .pre .shape)) (a .g) (a .p) (a .q) (sym e ∙ t))
 
 pub of-pair-spec : {M : Type 1} → statement M
 of-pair-spec = tie.close (tie.spec is-group-requires near-requires returns)

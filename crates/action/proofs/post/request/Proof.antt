@@ -4,7 +4,7 @@ use borrow.Author.Tests.{not-true, not-false}
 use Rattle.protocol.specs.Net.{setEntry, send}
 use Rattle.protocol.specs.Rules.{room?}
 use Rattle.net.specs.View.{view}
-use Rattle.net.specs.Encode.{bytesOf}
+use Rattle.net.specs.Encode.{bytesLike}
 use Rattle.action.proofs.Ends.{full, posted}
 use borrow.Author.Needs.{needs}
 use Rattle.action.proofs.post.request.Statement.{statement}
@@ -43,7 +43,7 @@ returns-2 : tie.Need-returns-2
 returns-2 c = let y = c .before .before .before in
     let x = y .before .before .before in
     let a = x .before .before .before .before .args in
-    posted _ _ _ _ _ (room x) (c .accepted .ensures) (y .post .ensures ∙ (λ i. bytesOf (send (setEntry (view (a .net .now)) (a .g) (a .p) (a .e)) (a .p) (a .q) (y .before .request-of .ensures i))))
+    posted _ _ _ _ _ (room x) (c .accepted .ensures) (y .post .ensures ∙ (λ i. bytesLike (a .net .now) (send (setEntry (view (a .net .now)) (a .g) (a .p) (a .e)) (a .p) (a .q) (y .before .request-of .ensures i))))
 
 pub request-spec : {M : Type 1} → statement M
 request-spec =
