@@ -8,6 +8,7 @@ use Rattle.bits.proofs.Cases.{by-eq}
 use Rattle.protocol.specs.declared.Tally.{Tally}
 use Rattle.protocol.specs.Runs.{noTally}
 use Rattle.run.specs.declared.Answer.{Answer}
+use Rattle.layout.specs.declared.form.Mark.the-variants.{Saved}
 use Rattle.run.specs.Runs.{runTally, runAnswer}
 use Rattle.run.proofs.Theorems.{refused-tally, tally-after}
 
@@ -20,5 +21,5 @@ set-anew-is l s a old t e said =
     let outcome = ap (λ (z : Answer). z .outcome) e in
     by-eq (a .outcome) 0
     (λ o. let p = sym outcome ∙ o in
-    said .0 o ∙ ap (λ (z : Answer). z .tally) e ∙ tally-after l s true p noTally ∙ sym (tally-after l s true p old))
-    (λ n. said .1 n ∙ sym (refused-tally l s true (λ z. n (outcome ∙ z)) old))
+    said .0 o ∙ ap (λ (z : Answer). z .tally) e ∙ tally-after Saved l s true p noTally ∙ sym (tally-after Saved l s true p old))
+    (λ n. said .1 n ∙ sym (refused-tally Saved l s true (λ z. n (outcome ∙ z)) old))

@@ -12,8 +12,10 @@ use Rattle.protocol.specs.Steps.{outcome, step}
 use Rattle.protocol.specs.Runs.{RunState, then, after}
 use Rattle.protocol.specs.Shaped.{Shaped}
 use Rattle.protocol.proofs.Theorems.{run-shaped}
+use Rattle.layout.specs.declared.form.Mark.{Mark}
+use Rattle.layout.specs.Marks.{markOf}
 use Rattle.net.specs.View.{view}
-use Rattle.net.specs.Encode.{bytesOf}
+use Rattle.net.specs.Encode.{bytesAs}
 use Rattle.access.specs.inner.Nets.{IsNet}
 use Rattle.access.proofs.Laws.{is-net-of}
 use Rattle.action.specs.declared.Answer.{Answer}
@@ -25,7 +27,7 @@ counts-step : (R : RunState) (k a b c : ℕ) → counted (R .tally) (stepAnswer 
 unfolding counted stepAnswer then
 counts-step R k a b c = by-bool (eqb (outcome (R .net) k a b c) 0) (λ t. rw t refl) (λ f. rw (f, f) refl)
 
-module _ (N : Net) (H : Shaped N) (s : List ℕ) where
+module _ (m : Mark) (N : Net) (H : Shaped N) (s : List ℕ) where
   -- step i of the script: its action and its operands
   abbrev pub k : ℕ → ℕ
   k i = getD s (4 * i) 0
@@ -40,13 +42,13 @@ module _ (N : Net) (H : Shaped N) (s : List ℕ) where
   c i = getD s (4 * i + 3) 0
 
   -- bytes that are those of the net after i steps
-  pub after-is-net : (i : ℕ) (l : List ℕ) → l ≡ bytesOf (after N s i .net) → (IsNet l) × (view l ≡ after N s i .net)
-  after-is-net i l e = is-net-of (after N s i .net) l (run-shaped N s H i) e
+  pub after-is-net : (i : ℕ) (l : List ℕ) → l ≡ bytesAs m (after N s i .net) → (IsNet l) × (view l ≡ after N s i .net) × (markOf l ≡ m)
+  after-is-net i l e = is-net-of m (after N s i .net) l (run-shaped N s H i) e
 
-  module _ (i : ℕ) (l l' : List ℕ) (d : Answer) (e : l ≡ bytesOf (after N s i .net)) (w : StepEnd l (k i) (a i) (b i) (c i) d l') where
-    pub turn-net : l' ≡ bytesOf (after N s (i + 1) .net)
+  module _ (i : ℕ) (l l' : List ℕ) (d : Answer) (e : l ≡ bytesAs m (after N s i .net)) (w : StepEnd l (k i) (a i) (b i) (c i) d l') where
+    pub turn-net : l' ≡ bytesAs m (after N s (i + 1) .net)
     unfolding after then
-    turn-net = rw add-one (w .bytes ∙ ap (λ (M : Net). bytesOf (step M (k i) (a i) (b i) (c i))) (after-is-net i l e .1))
+    turn-net = let was = after-is-net i l e in rw add-one (w .bytes ∙ (λ j. bytesAs (was .2 j) (step (was .1 j) (k i) (a i) (b i) (c i))))
 
     pub turn-tally : (t t' : Tally) → t ≡ after N s i .tally → t' ≡ counted t d → t' ≡ after N s (i + 1) .tally
     unfolding after

@@ -1,6 +1,7 @@
 // A run: the steps of a script in turn, and their tally.
 pub mod tally;
 
+use layout::form::Mark;
 use protocol::LONGEST_SCRIPT;
 use protocol::Tally;
 ghost use mathlib.Core.Path.{_≡_};
@@ -10,11 +11,11 @@ ghost use lib.ListN.{length};
 ghost use Rattle.protocol.specs.Runs.{noTally, lengthOutcome, after};
 ghost use Rattle.protocol.specs.Net.{longestScript};
 ghost use Rattle.net.specs.View.{view};
-ghost use Rattle.net.specs.Encode.{bytesOf};
+ghost use Rattle.net.specs.Encode.{bytesLike};
 ghost use Rattle.access.specs.inner.Nets.{IsNet};
 ghost use Rattle.run.specs.inner.Counts.{counted, CountsUpTo};
 ghost use Rattle.run.specs.Tallies.{tallyFits};
-ghost use Rattle.run.specs.Runs.{runOutcome, netAfterRun, runAnswer, tallyAfterRun};
+ghost use Rattle.run.specs.Runs.{runOutcomeAs, netAfterRunAs, runAnswerAs, tallyAfterRunAs, runOutcome, netAfterRun, runAnswer, tallyAfterRun};
 
 // What a run answers: its outcome number, and its counts, which are zero beside a refusal.
 pub struct Answer {
@@ -69,7 +70,7 @@ fn run_in(net: &mut [u8], script: &[u8]) -> Tally
     requires { ⌜ IsNet (now net) ⌝ }
     requires { ⌜ length (now script) ≤ longestScript ⌝ }
     ensures { λ r. ⌜ (r ≡ after (view (now (net .entry))) (now (script .entry)) (length (now (script .entry)) / 4) .tally)
-        × (now (net .exit) ≡ bytesOf (after (view (now (net .entry))) (now (script .entry)) (length (now (script .entry)) / 4) .net)) ⌝ }
+        × (now (net .exit) ≡ bytesLike (now (net .entry)) (after (view (now (net .entry))) (now (script .entry)) (length (now (script .entry)) / 4) .net)) ⌝ }
 {
     let n = script.len() / 4;
     let mut tally = no_tally();
@@ -88,11 +89,11 @@ fn run_in(net: &mut [u8], script: &[u8]) -> Tally
     tally
 }
 
-// The outcome number of a run; `fits` is whether the lent tally is of its size.
-fn run_outcome(net: &[u8], script: &[u8], fits: bool) -> u8
-    ensures { λ r. ⌜ r ≡ runOutcome (now (net .entry)) (now (script .entry)) fits ⌝ }
+// The outcome number of a run of bytes that are to be a net in the form of this mark; `fits` is whether the lent tally is of its size.
+fn run_outcome(net: &[u8], m: Mark, script: &[u8], fits: bool) -> u8
+    ensures { λ r. ⌜ r ≡ runOutcomeAs m (now (net .entry)) (now (script .entry)) fits ⌝ }
 {
-    if !shape::whole::shaped(net) {
+    if !shape::whole::shaped_as(net, m) {
         return 1;
     }
     if !fits {
@@ -102,11 +103,11 @@ fn run_outcome(net: &[u8], script: &[u8], fits: bool) -> u8
 }
 
 // What a run by value and one into a lent tally have in common.
-fn run_fitting(net: &mut [u8], script: &[u8], fits: bool) -> Answer
-    ensures { λ r. ⌜ (r ≡ runAnswer (now (net .entry)) (now (script .entry)) fits)
-        × (now (net .exit) ≡ netAfterRun (now (net .entry)) (now (script .entry)) fits) ⌝ }
+fn run_fitting(net: &mut [u8], m: Mark, script: &[u8], fits: bool) -> Answer
+    ensures { λ r. ⌜ (r ≡ runAnswerAs m (now (net .entry)) (now (script .entry)) fits)
+        × (now (net .exit) ≡ netAfterRunAs m (now (net .entry)) (now (script .entry)) fits) ⌝ }
 {
-    let outcome = run_outcome(net, script, fits);
+    let outcome = run_outcome(net, m, script, fits);
     if outcome != 0 {
         return Answer {
             outcome,
@@ -119,23 +120,32 @@ fn run_fitting(net: &mut [u8], script: &[u8], fits: bool) -> Answer
     }
 }
 
-// A run of any script on any bytes: its answer.
+// A run of any script on any bytes, which are to be a net in the saved form: its answer.
 pub fn run(net: &mut [u8], script: &[u8]) -> Answer
     ensures { λ r. ⌜ (r ≡ runAnswer (now (net .entry)) (now (script .entry)) true)
         × (now (net .exit) ≡ netAfterRun (now (net .entry)) (now (script .entry)) true) ⌝ }
 {
-    run_fitting(net, script, true)
+    run_fitting(net, Mark::Saved, script, true)
 }
 
-// A run of any script on any bytes, into any tally of bytes: its outcome number.
+// A run of any script on any bytes, which are to be a net in the form of this mark, into any tally of bytes: its outcome number.
+pub fn run_into_as(net: &mut [u8], m: Mark, script: &[u8], tally: &mut [u8]) -> u8
+    ensures { λ r. ⌜ (r ≡ runOutcomeAs m (now (net .entry)) (now (script .entry)) (tallyFits (now (tally .entry))))
+        × (now (net .exit) ≡ netAfterRunAs m (now (net .entry)) (now (script .entry)) (tallyFits (now (tally .entry))))
+        × (now (tally .exit) ≡ tallyAfterRunAs m (now (net .entry)) (now (script .entry)) (now (tally .entry))) ⌝ }
+{
+    let answer = run_fitting(net, m, script, tally.len() == tally::TALLY_LENGTH);
+    if answer.outcome == 0 {
+        tally::put(tally, answer.tally);
+    }
+    answer.outcome
+}
+
+// In the saved form.
 pub fn run_into(net: &mut [u8], script: &[u8], tally: &mut [u8]) -> u8
     ensures { λ r. ⌜ (r ≡ runOutcome (now (net .entry)) (now (script .entry)) (tallyFits (now (tally .entry))))
         × (now (net .exit) ≡ netAfterRun (now (net .entry)) (now (script .entry)) (tallyFits (now (tally .entry))))
         × (now (tally .exit) ≡ tallyAfterRun (now (net .entry)) (now (script .entry)) (now (tally .entry))) ⌝ }
 {
-    let answer = run_fitting(net, script, tally.len() == tally::TALLY_LENGTH);
-    if answer.outcome == 0 {
-        tally::put(tally, answer.tally);
-    }
-    answer.outcome
+    run_into_as(net, Mark::Saved, script, tally)
 }

@@ -15,10 +15,13 @@ use Rattle.net.specs.View.{view}
 use Rattle.access.specs.inner.Nets.{IsNet}
 use Rattle.action.specs.declared.Answer.{Answer}
 use Rattle.action.specs.inner.Ends.{refusedWith, actionAnswer, netAfterAction, ActionEnd}
-use Rattle.shape.specs.Shape.{shaped}
-use Rattle.step.specs.Steps.{stepOutcome, netAfterStep}
+use Rattle.layout.specs.declared.form.Mark.{Mark}
+use Rattle.shape.specs.Shape.{shapedAs}
+use Rattle.shape.proofs.Nets.{marked}
+use Rattle.net.specs.Encode.{bytesAs}
+use Rattle.step.specs.Steps.{stepOutcomeAs, netAfterStepAs}
 use Rattle.step.specs.inner.Ends.{stepAnswer, StepEnd}
-use Rattle.net.proofs.Saved.{view-bytes}
+use Rattle.net.proofs.Forms.{view-bytes}
 
 module _ (l : List ℕ) (r : IsNet l) (k a b c : ℕ) where
   abbrev R : Rule Net
@@ -29,13 +32,13 @@ module _ (l : List ℕ) (r : IsNet l) (k a b c : ℕ) where
   unfolding stepAnswer outcome step actionAnswer netAfterAction
   takes t D = record {
     answer = D .answer ∙ rw t refl;
-    bytes = D .bytes ∙ by-bool (eqb (verdict R) 0) (λ e. rw (t, e) refl) (λ e. rw (t, e) (sym (view-bytes l (r .shape))));
+    bytes = D .bytes ∙ by-bool (eqb (verdict R) 0) (λ e. rw (t, e) refl) (λ e. rw (t, e) (sym (view-bytes _ l (r .shape))));
   }
 
   -- a number that names no action
   pub unknown : {d : Answer} → action? k ≡ false → d ≡ refusedWith 2 → StepEnd l k a b c d l
   unfolding stepAnswer outcome step
-  unknown f e = record { answer = e ∙ rw f refl; bytes = rw f (sym (view-bytes l (r .shape))) }
+  unknown f e = record { answer = e ∙ rw f refl; bytes = rw f (sym (view-bytes _ l (r .shape))) }
 
 -- the arm of number n: its action did what the rule of that number says
 pub arm : (n : ℕ) → action? n ≡ true → (l : List ℕ) → IsNet l → (k a b c : ℕ) → k ≡ n → {d : Answer} {l' : List ℕ} → ActionEnd (rule (view l) n a b c) l d l' → StepEnd l k a b c d l'
@@ -50,14 +53,16 @@ no-action k n1 n2 n3 n4 n5 n6 n7 n8 n9 = by-lt 0 k
     (λ h. rw (lt-leb k 9 (past 9 k (past 8 k (past 7 k (past 6 k (past 5 k (past 4 k (past 3 k (past 2 k (past 1 k h n1) n2) n3) n4) n5) n6) n7) n8) n9)) (and-false (ltb 0 k)))
     (λ z. rw (le-ltb 0 k z))
 
--- any bytes: a net's, and others
-module _ (l : List ℕ) (k a b c : ℕ) where
-  pub on-net : shaped l ≡ true → {d : Answer} {l' : List ℕ} → StepEnd l k a b c d l' → (d .outcome ≡ stepOutcome l k a b c) × (l' ≡ netAfterStep l k a b c)
-  unfolding stepOutcome netAfterStep stepAnswer step
-  on-net s D = rw s (by-bool (eqb (outcome (view l) k a b c) 0)
-      (λ t. (ap (λ (d : Answer). d .outcome) (D .answer) ∙ rw t (sym (eqb-true _ _ t)), D .bytes ∙ rw t))
-      (λ f. (ap (λ (d : Answer). d .outcome) (D .answer) ∙ rw f, D .bytes ∙ rw f (view-bytes l s))))
+-- any bytes: a net's in the form of this mark, and others
+module _ (m : Mark) (l : List ℕ) (k a b c : ℕ) where
+  pub on-net : shapedAs m l ≡ true → {d : Answer} {l' : List ℕ} → StepEnd l k a b c d l' → (d .outcome ≡ stepOutcomeAs m l k a b c) × (l' ≡ netAfterStepAs m l k a b c)
+  unfolding stepOutcomeAs netAfterStepAs stepAnswer step
+  on-net s {d} {l'} D =
+      let left : l' ≡ bytesAs m (step (view l) k a b c) = D .bytes ∙ ap (λ (m : Mark). bytesAs m (step (view l) k a b c)) (marked m l s) in
+      rw s (by-bool (eqb (outcome (view l) k a b c) 0)
+      (λ t. (ap (λ (d : Answer). d .outcome) (D .answer) ∙ rw t (sym (eqb-true _ _ t)), left ∙ rw t))
+      (λ f. (ap (λ (d : Answer). d .outcome) (D .answer) ∙ rw f, left ∙ rw f (view-bytes m l s))))
 
-  pub on-none : shaped l ≡ false → (1 ≡ stepOutcome l k a b c) × (l ≡ netAfterStep l k a b c)
-  unfolding stepOutcome netAfterStep
+  pub on-none : shapedAs m l ≡ false → (1 ≡ stepOutcomeAs m l k a b c) × (l ≡ netAfterStepAs m l k a b c)
+  unfolding stepOutcomeAs netAfterStepAs
   on-none f = rw f (refl, refl)

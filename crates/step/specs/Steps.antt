@@ -1,17 +1,26 @@
--- A step over bytes: what it answers, and the bytes that it leaves.
+-- A step over bytes, in each form: what it answers, and the bytes that it leaves.
 use mathlib.Core.Bool.{cond}
 use mathlib.Core.List.{List}
 use Prim.Native.Nat.{ℕ}
 use lib.Dec.{eqb}
 use Rattle.protocol.specs.Steps.{orElse, outcome, step}
-use Rattle.shape.specs.Shape.{shaped}
+use Rattle.layout.specs.declared.form.Mark.{Mark}
+use Rattle.layout.specs.declared.form.Mark.the-variants.{Saved}
+use Rattle.shape.specs.Shape.{shapedAs}
 use Rattle.net.specs.View.{view}
-use Rattle.net.specs.Encode.{bytesOf}
+use Rattle.net.specs.Encode.{bytesAs}
 
--- 1: "the net is not 15,728 bytes or not well shaped"; the others are the rules'
-unfoldable pub stepOutcome : List ℕ → ℕ → ℕ → ℕ → ℕ → ℕ
-stepOutcome l k a b c = orElse (shaped l) 1 (outcome (view l) k a b c)
+-- 1: "the net is not 15,728 bytes or not well shaped", in the form of this mark; the others are the rules'
+unfoldable pub stepOutcomeAs : Mark → List ℕ → ℕ → ℕ → ℕ → ℕ → ℕ
+stepOutcomeAs m l k a b c = orElse (shapedAs m l) 1 (outcome (view l) k a b c)
 
--- "A refusal .. changes no lent byte"; an accepted step leaves the bytes of the rule's next net
-unfoldable pub netAfterStep : List ℕ → ℕ → ℕ → ℕ → ℕ → List ℕ
-netAfterStep l k a b c = cond (eqb (stepOutcome l k a b c) 0) (bytesOf (step (view l) k a b c)) l
+-- "A refusal .. changes no lent byte"; an accepted step leaves the bytes of the rule's next net, in the same form
+unfoldable pub netAfterStepAs : Mark → List ℕ → ℕ → ℕ → ℕ → ℕ → List ℕ
+netAfterStepAs m l k a b c = cond (eqb (stepOutcomeAs m l k a b c) 0) (bytesAs m (step (view l) k a b c)) l
+
+-- the net of document 01 is the saved form
+abbrev pub stepOutcome : List ℕ → ℕ → ℕ → ℕ → ℕ → ℕ
+stepOutcome l k a b c = stepOutcomeAs Saved l k a b c
+
+abbrev pub netAfterStep : List ℕ → ℕ → ℕ → ℕ → ℕ → List ℕ
+netAfterStep l k a b c = netAfterStepAs Saved l k a b c

@@ -1,11 +1,12 @@
 // One step of a net in bytes.
 use action::Answer;
+use layout::form::Mark;
 ghost use mathlib.Core.Path.{_≡_};
 ghost use Rattle.access.specs.inner.Nets.{IsNet};
 ghost use Rattle.step.specs.inner.Ends.{StepEnd};
-ghost use Rattle.step.specs.Steps.{stepOutcome, netAfterStep};
+ghost use Rattle.step.specs.Steps.{stepOutcomeAs, netAfterStepAs, stepOutcome, netAfterStep};
 
-// A step of bytes that are a net's: what a run repeats.
+// A step of bytes that are a net's, in the form that they are in: what a run repeats.
 pub fn step_in(net: &mut [u8], action: u8, a: u8, b: u8, c: u8) -> Answer
     requires { ⌜ IsNet (now net) ⌝ }
     ensures { λ r. ⌜ StepEnd (now (net .entry)) action a b c r (now (net .exit)) ⌝ }
@@ -24,13 +25,21 @@ pub fn step_in(net: &mut [u8], action: u8, a: u8, b: u8, c: u8) -> Answer
     }
 }
 
-// A step of any bytes: its outcome number.
-pub fn step(net: &mut [u8], action: u8, a: u8, b: u8, c: u8) -> u8
-    ensures { λ r. ⌜ (r ≡ stepOutcome (now (net .entry)) action a b c) × (now (net .exit) ≡ netAfterStep (now (net .entry)) action a b c) ⌝ }
+// A step of any bytes, which are to be a net in the form of this mark: its outcome number.
+pub fn step_as(net: &mut [u8], m: Mark, action: u8, a: u8, b: u8, c: u8) -> u8
+    ensures { λ r. ⌜ (r ≡ stepOutcomeAs m (now (net .entry)) action a b c)
+        × (now (net .exit) ≡ netAfterStepAs m (now (net .entry)) action a b c) ⌝ }
 {
-    if shape::whole::shaped(net) {
+    if shape::whole::shaped_as(net, m) {
         step_in(net, action, a, b, c).outcome
     } else {
         1
     }
+}
+
+// In the saved form.
+pub fn step(net: &mut [u8], action: u8, a: u8, b: u8, c: u8) -> u8
+    ensures { λ r. ⌜ (r ≡ stepOutcome (now (net .entry)) action a b c) × (now (net .exit) ≡ netAfterStep (now (net .entry)) action a b c) ⌝ }
+{
+    step_as(net, Mark::Saved, action, a, b, c)
 }

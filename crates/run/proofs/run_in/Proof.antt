@@ -7,18 +7,18 @@ use lib.ListN.{length}
 use Rattle.protocol.specs.Runs.{after}
 use Rattle.protocol.specs.Shaped.{Shaped}
 use Rattle.net.specs.View.{view}
-use Rattle.net.specs.Encode.{bytesOf}
+use Rattle.net.specs.Encode.{bytesLike}
 use Rattle.run.specs.inner.Counts.{CountsUpTo}
 use Rattle.run.proofs.CountsUpTo.{few}
 use Rattle.run.proofs.Turns.{after-is-net, turn-net, turn-tally}
 use Rattle.run.proofs.run_in.Statement.{statement}
 use Rattle.run.proofs.run_in.Tie as tie
-use Rattle.net.proofs.Saved.{seen, view-bytes}
+use Rattle.net.proofs.Forms.{seen, view-bytes}
 
 abbrev Inv-loop : tie.InvT-loop
 Inv-loop net₀ script n tally₀ i₀ net tally i =
     let R = after (view net₀) script i in
-    (i ≤ n) × (net ≡ bytesOf (R .net)) × (tally ≡ R .tally) × (length net ≡ length net₀)
+    (i ≤ n) × (net ≡ bytesLike net₀ (R .net)) × (tally ≡ R .tally) × (length net ≡ length net₀)
 
 abbrev μ-loop : tie.MeasureT-loop
 μ-loop net₀ script n tally₀ i₀ net tally i = n - i
@@ -38,14 +38,14 @@ abbrev script : tie.At-loop Inv-loop μ-loop → List ℕ
 script c = start c .args .script .now
 
 shape : (c : tie.At-loop Inv-loop μ-loop) → Shaped (view (net₀ c))
-shape c = seen _ (start c .pre .0 .shape)
+shape c = seen _ _ (start c .pre .0 .shape)
 
 no-tally-requires : tie.Need-no-tally-requires Inv-loop μ-loop
 no-tally-requires c κs = search needs
 
 loop-holds : tie.Need-loop-holds Inv-loop μ-loop
 unfolding after
-loop-holds c = (omega arith, sym (view-bytes _ (c .before .before .before .pre .0 .shape)), c .no-tally .ensures, refl)
+loop-holds c = (omega arith, sym (view-bytes _ _ (c .before .before .before .pre .0 .shape)), c .no-tally .ensures, refl)
 
 mul-step-in : tie.Need-mul-step-in Inv-loop μ-loop
 mul-step-in c = omega arith
@@ -81,7 +81,7 @@ shared-slice-read-step-in-4 : tie.Need-shared-slice-read-step-in-4 Inv-loop μ-l
 shared-slice-read-step-in-4 c = omega arith
 
 step-in-requires : tie.Need-step-in-requires Inv-loop μ-loop
-step-in-requires c κs = let t = turn c in after-is-net _ (shape t) (script t) (t .loop .i) _ (t .loop .inv .1) .0
+step-in-requires c κs = let t = turn c in after-is-net _ _ (shape t) (script t) (t .loop .i) _ (t .loop .inv .1) .0
 
 counted-requires : tie.Need-counted-requires Inv-loop μ-loop
 counted-requires c κs =
@@ -107,8 +107,8 @@ loop-again c =
     let t = turn (stepped .before) in
     let l = t .loop in
     let did = stepped .step-in .ensures in
-    let net = turn-net _ (shape t) (script t) (l .i) (l .net) _ _ (l .inv .1) did in
-    let tally = turn-tally _ (shape t) (script t) (l .i) (l .net) _ _ (l .inv .1) did (l .tally) _ (l .inv .2) (c .counted .ensures) in
+    let net = turn-net _ _ (shape t) (script t) (l .i) (l .net) _ _ (l .inv .1) did in
+    let tally = turn-tally _ _ (shape t) (script t) (l .i) (l .net) _ _ (l .inv .1) did (l .tally) _ (l .inv .2) (c .counted .ensures) in
     (omega arith, net, tally, omega arith)
 
 same-length : tie.Need-same-length Inv-loop μ-loop
@@ -119,7 +119,7 @@ returns c =
     let t = c .before in
     let all : t .loop .i ≡ length (script t) / 4 = omega arith in
     let at = after (view (net₀ t)) (script t) in
-    (t .loop .inv .2 ∙ ap (λ (k : ℕ). at k .tally) all, t .loop .inv .1 ∙ ap (λ (k : ℕ). bytesOf (at k .net)) all)
+    (t .loop .inv .2 ∙ ap (λ (k : ℕ). at k .tally) all, t .loop .inv .1 ∙ ap (λ (k : ℕ). bytesLike (net₀ t) (at k .net)) all)
 
 pub run-in-spec : {M : Type 1} → statement M
 run-in-spec =

@@ -7,7 +7,7 @@ use lib.Dec.{eqb}
 use Rattle.protocol.specs.Net.{Net}
 use Rattle.protocol.specs.Steps.{rule, outcome, step}
 use Rattle.net.specs.View.{view}
-use Rattle.net.specs.Encode.{bytesOf}
+use Rattle.net.specs.Encode.{bytesLike}
 use Rattle.action.specs.declared.Answer.{Answer}
 use Rattle.action.specs.inner.Ends.{refusedWith, acceptedWith}
 
@@ -16,4 +16,4 @@ stepAnswer N k a b c = let o = outcome N k a b c in cond (eqb o 0) (acceptedWith
 
 pub record StepEnd (l : List ℕ) (k a b c : ℕ) (r : Answer) (l' : List ℕ) : Type 0 where
   pub answer : r ≡ stepAnswer (view l) k a b c
-  pub bytes : l' ≡ bytesOf (step (view l) k a b c)
+  pub bytes : l' ≡ bytesLike l (step (view l) k a b c)

@@ -6,10 +6,10 @@ use borrow.Author.Needs.{needs}
 use Rattle.protocol.specs.Runs.{noTally}
 use Rattle.run.specs.declared.Answer.{Answer}
 use Rattle.run.specs.Tallies.{tallyFits, tallyBytes}
-use Rattle.run.specs.Runs.{runOutcome}
+use Rattle.run.specs.Runs.{runOutcomeAs}
 use Rattle.run.proofs.Theorems.{passed, refused-bytes, tally-after, bytes-after}
-use Rattle.run.proofs.run_into.Statement.{statement}
-use Rattle.run.proofs.run_into.Tie as tie
+use Rattle.run.proofs.run_into_as.Statement.{statement}
+use Rattle.run.proofs.run_into_as.Tie as tie
 
 -- the places, seen from those after them
 abbrev start : tie.After-run-fitting → tie.Start
@@ -20,7 +20,7 @@ ran c = c .before .before .before
 
 -- the outcome that the definition gives to what was lent
 abbrev judged : tie.After-struct-known → ℕ
-judged c = let s = start (ran c) in runOutcome (s .args .net .now) (s .args .script .now) (tallyFits (s .args .tally .now))
+judged c = let s = start (ran c) in runOutcomeAs (s .args .m) (s .args .net .now) (s .args .script .now) (tallyFits (s .args .tally .now))
 
 told : (c : tie.After-struct-known) → ran c .run-fitting .result .outcome ≡ judged c
 told c = ap (λ (a : Answer). a .outcome) (ran c .run-fitting .ensures .0)
@@ -35,7 +35,7 @@ run-fitting-requires : tie.Need-run-fitting-requires
 run-fitting-requires c κs = search needs
 
 put-requires : tie.Need-put-requires
-put-requires c κs = eqb-true _ _ (passed _ _ _ (accepted (c .before)) .size)
+put-requires c κs = eqb-true _ _ (passed _ _ _ _ (accepted (c .before)) .size)
 
 same-length : tie.Need-same-length
 same-length c = search needs
@@ -49,17 +49,17 @@ returns c =
     let at = put .before .before in
     let o = accepted at in
     let said = ran (at .before) .run-fitting .ensures in
-    let counts = ap (λ (a : Answer). tallyBytes (a .tally)) (said .0) ∙ ap tallyBytes (tally-after _ _ _ o noTally) in
-    (told (at .before), said .1, put .put .ensures ∙ counts ∙ sym (bytes-after _ _ _ o))
+    let counts = ap (λ (a : Answer). tallyBytes (a .tally)) (said .0) ∙ ap tallyBytes (tally-after _ _ _ _ o noTally) in
+    (told (at .before), said .1, put .put .ensures ∙ counts ∙ sym (bytes-after _ _ _ _ o))
 
 same-length-3 : tie.Need-same-length-3
 same-length-3 c = search needs
 
 returns-2 : tie.Need-returns-2
-returns-2 c = (told (c .before), ran (c .before) .run-fitting .ensures .1, sym (refused-bytes _ _ _ (refused c)))
+returns-2 c = (told (c .before), ran (c .before) .run-fitting .ensures .1, sym (refused-bytes _ _ _ _ (refused c)))
 
-pub run-into-spec : {M : Type 1} → statement M
-run-into-spec =
+pub run-into-as-spec : {M : Type 1} → statement M
+run-into-as-spec =
     tie.close
     (tie.spec
     run-fitting-requires
