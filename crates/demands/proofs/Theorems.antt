@@ -1,4 +1,4 @@
--- Demand 3 over bytes.
+-- Demand 3 over bytes, in each form.
 --     reachable-demand3         every station with a parent reaches its root in fewer hops than there are stations, every parent on the way
 --                               lists the one below; no channel holds more than one request and one reply of a group
 --     reachable-keeps-parents   a station with a parent keeps one in a step that leaves it a member or with a child
@@ -24,73 +24,76 @@ use Rattle.protocol.specs.Sound.{ShapedSound}
 use Rattle.protocol.proofs.Theorems.{fresh-shaped-sound, step-shaped-sound, run-shaped-sound, shaped-sound-demand3, never-six}
 use Rattle.layout.specs.Layout.{netLength}
 use Rattle.plan.specs.Planned.{planShaped}
-use Rattle.shape.specs.Shape.{shaped}
+use Rattle.layout.specs.declared.form.Mark.{Mark}
+use Rattle.layout.specs.declared.form.Mark.the-variants.{Saved}
 use Rattle.net.specs.View.{view}
-use Rattle.net.specs.Encode.{bytesOf}
+use Rattle.net.specs.Encode.{bytesAs}
 use Rattle.fresh.specs.Fresh.{freshOutcome, netAfterFresh}
-use Rattle.step.specs.Steps.{stepOutcome, netAfterStep}
+use Rattle.step.specs.Steps.{stepOutcomeAs, netAfterStepAs}
 use Rattle.step.proofs.After.{after-net}
-use Rattle.run.specs.Runs.{runOutcome, netAfterRun, inTurn}
+use Rattle.run.specs.Runs.{runOutcomeAs, netAfterRunAs, inTurn}
 use Rattle.run.proofs.Theorems.{refused-after, run-after}
-use Rattle.demands.specs.Reachable.{Reachable, begun, stepped, ran, ShapedSoundBytes}
+use Rattle.convert.proofs.Theorems.{converted-after}
+use Rattle.demands.specs.Reachable.{Reachable, begun, stepped, ran, converted, ShapedSoundBytes}
 use Rattle.forms.specs.Plans.{planIn}
 use Rattle.forms.proofs.plan.Seen.{plan-seen}
-use Rattle.net.proofs.Saved.{stands}
+use Rattle.net.proofs.Forms.{stands}
 
 -- the bytes of a well-shaped and sound net
-shaped-sound-bytes : (N : Net) (l : List ℕ) → ShapedSound N → l ≡ bytesOf N → ShapedSoundBytes l
-shaped-sound-bytes N l G e = let w = stands N l (G .shaped) e in record { shape = w .0; sound = subst ShapedSound (sym (w .1)) G }
+shaped-sound-bytes : (m : Mark) (N : Net) (l : List ℕ) → ShapedSound N → l ≡ bytesAs m N → ShapedSoundBytes m l
+shaped-sound-bytes m N l G e = let w = stands m N l (G .shaped) e in record { shape = w .0; sound = subst ShapedSound (sym (w .1)) G }
 
-shaped-sound-fresh : (plan net : List ℕ) → freshOutcome plan net ≡ 0 → ShapedSoundBytes (netAfterFresh plan net)
+shaped-sound-fresh : (plan net : List ℕ) → freshOutcome plan net ≡ 0 → ShapedSoundBytes Saved (netAfterFresh plan net)
 unfolding freshOutcome netAfterFresh
 shaped-sound-fresh plan net o =
     let size = orElse-pass (eqb (length net) netLength) 10 _ 0 (λ i. omega arith) o in
     let shape = orElse-pass (planShaped plan) 9 0 0 (λ i. omega arith) (size .1) .0 in
-    shaped-sound-bytes (fresh (planIn plan)) _ (fresh-shaped-sound (planIn plan) (plan-seen plan shape)) (rw o refl)
+    shaped-sound-bytes Saved (fresh (planIn plan)) _ (fresh-shaped-sound (planIn plan) (plan-seen plan shape)) (rw o refl)
 
-shaped-sound-step : (l : List ℕ) → ShapedSoundBytes l → (k a b c : ℕ) → ShapedSoundBytes (netAfterStep l k a b c)
-shaped-sound-step l F k a b c =
-    let w = after-net l k a b c (F .shape) in
+shaped-sound-step : (m : Mark) (l : List ℕ) → ShapedSoundBytes m l → (k a b c : ℕ) → ShapedSoundBytes m (netAfterStepAs m l k a b c)
+shaped-sound-step m l F k a b c =
+    let w = after-net m l k a b c (F .shape) in
     record { shape = w .0; sound = subst ShapedSound (sym (w .1)) (step-shaped-sound (view l) (F .sound) k a b c) }
 
-shaped-sound-run : (l : List ℕ) → ShapedSoundBytes l → (s : List ℕ) (fits : Bool) → ShapedSoundBytes (netAfterRun l s fits)
-shaped-sound-run l F s fits = by-eq (runOutcome l s fits) 0
-    (λ o. shaped-sound-bytes _ _ (run-shaped-sound (view l) s (F .sound) (length s / 4)) (run-after l s fits o .0))
-    (λ n. subst ShapedSoundBytes (sym (refused-after l s fits n)) F)
+shaped-sound-run : (m : Mark) (l : List ℕ) → ShapedSoundBytes m l → (s : List ℕ) (fits : Bool) → ShapedSoundBytes m (netAfterRunAs m l s fits)
+shaped-sound-run m l F s fits = by-eq (runOutcomeAs m l s fits) 0
+    (λ o. shaped-sound-bytes m _ _ (run-shaped-sound (view l) s (F .sound) (length s / 4)) (run-after m l s fits o .0))
+    (λ n. subst (ShapedSoundBytes m) (sym (refused-after m l s fits n)) F)
 
-pub reachable-shaped-sound : {l : List ℕ} → Reachable l → ShapedSoundBytes l
+pub reachable-shaped-sound : {m : Mark} {l : List ℕ} → Reachable m l → ShapedSoundBytes m l
 reachable-shaped-sound (begun plan net o) = shaped-sound-fresh plan net o
-reachable-shaped-sound (stepped {l} R k a b c) = shaped-sound-step l (reachable-shaped-sound R) k a b c
-reachable-shaped-sound (ran {l} R s fits) = shaped-sound-run l (reachable-shaped-sound R) s fits
+reachable-shaped-sound (stepped {m} {l} R k a b c) = shaped-sound-step m l (reachable-shaped-sound R) k a b c
+reachable-shaped-sound (ran {m} {l} R s fits) = shaped-sound-run m l (reachable-shaped-sound R) s fits
+reachable-shaped-sound (converted {m} {l} R n out o) = shaped-sound-bytes n (view l) _ (reachable-shaped-sound R .sound) (converted-after m n l out o)
 
-step-keeps : {l : List ℕ} → Reachable l → (k a b c : ℕ) → KeepsParents (view l) (view (netAfterStep l k a b c))
-step-keeps {l} R k a b c =
+step-keeps : {m : Mark} {l : List ℕ} → Reachable m l → (k a b c : ℕ) → KeepsParents (view l) (view (netAfterStepAs m l k a b c))
+step-keeps {m} {l} R k a b c =
     let F = reachable-shaped-sound R in
-    subst (KeepsParents (view l)) (sym (after-net l k a b c (F .shape) .1)) (step-keeps-parents (view l) (F .sound .shaped) k a b c)
+    subst (KeepsParents (view l)) (sym (after-net m l k a b c (F .shape) .1)) (step-keeps-parents (view l) (F .sound .shaped) k a b c)
 
-module _ {l : List ℕ} (R : Reachable l) where
+module _ {m : Mark} {l : List ℕ} (R : Reachable m l) where
   pub reachable-demand3 : Demand3 (view l)
   reachable-demand3 = shaped-sound-demand3 (view l) (reachable-shaped-sound R .sound)
 
-  pub reachable-keeps-parents : (k a b c : ℕ) → KeepsParents (view l) (view (netAfterStep l k a b c))
+  pub reachable-keeps-parents : (k a b c : ℕ) → KeepsParents (view l) (view (netAfterStepAs m l k a b c))
   reachable-keeps-parents = step-keeps R
 
-  pub reachable-never-six : (k a b c : ℕ) → stepOutcome l k a b c ≢ 6
-  unfolding stepOutcome
+  pub reachable-never-six : (k a b c : ℕ) → stepOutcomeAs m l k a b c ≢ 6
+  unfolding stepOutcomeAs
   reachable-never-six k a b c e =
       let F = reachable-shaped-sound R in
       never-six (view l) (F .sound) k a b c (ap (λ t. orElse t 1 (outcome (view l) k a b c)) (sym (F .shape)) ∙ e)
 
   -- after each step of a script
-  reachable-turn : (s : List ℕ) (i : ℕ) → Reachable (inTurn l s i)
+  reachable-turn : (s : List ℕ) (i : ℕ) → Reachable m (inTurn m l s i)
   unfolding inTurn
   reachable-turn s zero = R
   reachable-turn s (suc i) = stepped (reachable-turn s i) _ _ _ _
 
   -- "while": through any steps after each of which it is a member or has a child
   pub reachable-keeps-while : (s : List ℕ) (g p i : ℕ) → view l .entry g p .parent ≢ nil
-      → ((j : ℕ) → j < i → joins (view (inTurn l s (suc j)) .entry g p) ≡ true)
-      → view (inTurn l s i) .entry g p .parent ≢ nil
+      → ((j : ℕ) → j < i → joins (view (inTurn m l s (suc j)) .entry g p) ≡ true)
+      → view (inTurn m l s i) .entry g p .parent ≢ nil
   unfolding inTurn
   reachable-keeps-while s g p zero has still = has
   reachable-keeps-while s g p (suc i) has still =
