@@ -19,7 +19,7 @@ use Rattle.shape.specs.Shape.{shaped}
 use Rattle.net.specs.View.{view}
 use Rattle.call.specs.Answers.{calledIn}
 use Rattle.contracts.proofs.Given.{passed, call-given}
-use Rattle.net.proofs.Saved.{seen}
+use Rattle.net.proofs.Forms.{seen}
 
 module _ (l : List ℕ) (g c : ℕ) (fits : Bool) (o : calledIn l g c fits .outcome ≡ 0) where
   abbrev t : Tree
@@ -41,11 +41,11 @@ module _ (l : List ℕ) (g c : ℕ) (fits : Bool) (o : calledIn l g c fits .outc
   pub call-exact : (x : ℕ) → count x (c ∷ receivers (spread t c)) ≡ count x (stationsIn (reach t))
   unfolding onTree reach
   call-exact x =
-      let H = seen l (all-passed .0) in
+      let H = seen _ l (all-passed .0) in
       let w = tree-rooted (view l) H g inside in
       call-reaches (view l) H g inside c (on-tree t w c .1 (all-passed .1 .1)) x ∙ sym (reach-count t w (t .stations) 0 x)
 
   -- and those are the stations on the tree
   pub call-on-tree : (x : ℕ) → count x (stationsIn (reach t)) ≡ bit (onTree t x)
   unfolding onTree reach
-  call-on-tree x = reach-count t (tree-rooted (view l) (seen l (all-passed .0)) g inside) (t .stations) 0 x
+  call-on-tree x = reach-count t (tree-rooted (view l) (seen _ l (all-passed .0)) g inside) (t .stations) 0 x

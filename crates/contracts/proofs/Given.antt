@@ -12,16 +12,18 @@ use Rattle.protocol.proofs.steps.Steps.{orElse-pass}
 use Rattle.protocol.specs.Runs.{lengthOutcome, scriptOutcome}
 use Rattle.protocol.specs.Names.{firstFrom, sameName, find}
 use Rattle.protocol.specs.Calls.{callOutcome, called}
+use Rattle.layout.specs.declared.form.Mark.{Mark}
 use Rattle.shape.specs.Shape.{shaped}
 use Rattle.net.specs.View.{view}
 use Rattle.fresh.specs.Fresh.{freshOutcome}
-use Rattle.step.specs.Steps.{stepOutcome}
-use Rattle.run.specs.Runs.{runOutcome}
+use Rattle.step.specs.Steps.{stepOutcomeAs}
+use Rattle.run.specs.Runs.{runOutcomeAs}
+use Rattle.convert.specs.Converts.{convertOutcome}
 use Rattle.find.specs.Answers.{foundIn}
 use Rattle.call.specs.Answers.{calledIn}
 use Rattle.listing.specs.Bench.{benchOutcome}
 use Rattle.contracts.specs.Tests.{Test, Given, accepted, fails, goes-on}
-use Rattle.contracts.specs.Tables.{freshTable, stepTable, runTable, findTable, callTable, benchTable}
+use Rattle.contracts.specs.Tables.{freshTable, stepTable, runTable, convertTable, findTable, callTable, benchTable}
 
 -- the number of the first test that fails
 abbrev first : List Test → ℕ
@@ -54,13 +56,17 @@ pub fresh-given : (plan net : List ℕ) (k : ℕ) → (freshOutcome plan net ≡
 unfolding freshOutcome
 fresh-given plan net = exactly (freshTable plan net) (freshOutcome plan net) refl
 
-pub step-given : (l : List ℕ) (k a b c o : ℕ) → (stepOutcome l k a b c ≡ o) ↔ Given (stepTable l k a b c) o
-unfolding stepOutcome outcome verdict
-step-given l k a b c = exactly (stepTable l k a b c) (stepOutcome l k a b c) refl
+pub step-given : (m : Mark) (l : List ℕ) (k a b c o : ℕ) → (stepOutcomeAs m l k a b c ≡ o) ↔ Given (stepTable m l k a b c) o
+unfolding stepOutcomeAs outcome verdict
+step-given m l k a b c = exactly (stepTable m l k a b c) (stepOutcomeAs m l k a b c) refl
 
-pub run-given : (l s : List ℕ) (fits : Bool) (k : ℕ) → (runOutcome l s fits ≡ k) ↔ Given (runTable l s fits) k
-unfolding runOutcome scriptOutcome lengthOutcome
-run-given l s fits = exactly (runTable l s fits) (runOutcome l s fits) refl
+pub run-given : (m : Mark) (l s : List ℕ) (fits : Bool) (k : ℕ) → (runOutcomeAs m l s fits ≡ k) ↔ Given (runTable m l s fits) k
+unfolding runOutcomeAs scriptOutcome lengthOutcome
+run-given m l s fits = exactly (runTable m l s fits) (runOutcomeAs m l s fits) refl
+
+pub convert-given : (m : Mark) (l out : List ℕ) (k : ℕ) → (convertOutcome m l out ≡ k) ↔ Given (convertTable m l out) k
+unfolding convertOutcome
+convert-given m l out = exactly (convertTable m l out) (convertOutcome m l out) refl
 
 pub find-given : (l w : List ℕ) (k : ℕ) → (foundIn l w .outcome ≡ k) ↔ Given (findTable l w) k
 find-given l w = exactly (findTable l w) (foundIn l w .outcome) is

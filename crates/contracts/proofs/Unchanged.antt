@@ -12,14 +12,17 @@ use Rattle.tree.specs.declared.Reach.{Reach}
 use Rattle.protocol.specs.declared.Tally.{Tally}
 use Rattle.protocol.specs.Calls.{callOutcome, called}
 use Rattle.protocol.specs.Names.{firstFrom, sameName, find}
+use Rattle.layout.specs.declared.form.Mark.{Mark}
 use Rattle.shape.specs.Shape.{shaped}
 use Rattle.net.specs.View.{view}
 use Rattle.fresh.specs.Fresh.{freshOutcome, netAfterFresh}
-use Rattle.step.specs.Steps.{stepOutcome, netAfterStep}
+use Rattle.step.specs.Steps.{stepOutcomeAs, netAfterStepAs}
 use Rattle.run.specs.Tallies.{tallyFits}
-use Rattle.run.specs.Runs.{runOutcome, netAfterRun, runTally, tallyAfterRun}
+use Rattle.run.specs.Runs.{runOutcomeAs, netAfterRunAs, runTallyAs, tallyAfterRunAs}
 use Rattle.step.proofs.After.{refused-after as refused-after-step}
 use Rattle.run.proofs.Theorems.{refused-after, refused-tally, refused-bytes}
+use Rattle.convert.specs.Converts.{convertOutcome, afterConvert}
+use Rattle.convert.proofs.Theorems.{refused-after as refused-after-convert}
 use Rattle.find.specs.Answers.{foundIn}
 use Rattle.visit.specs.Lists.{listFits}
 use Rattle.call.specs.Answers.{calledIn, listAfterCall}
@@ -29,15 +32,21 @@ pub fresh-unchanged : (plan net : List ℕ) → freshOutcome plan net ≢ 0 → 
 unfolding netAfterFresh
 fresh-unchanged plan net n = rw (ne-eqb _ 0 n) refl
 
-pub step-unchanged : (l : List ℕ) (k a b c : ℕ) → stepOutcome l k a b c ≢ 0 → netAfterStep l k a b c ≡ l
+pub step-unchanged : (m : Mark) (l : List ℕ) (k a b c : ℕ) → stepOutcomeAs m l k a b c ≢ 0 → netAfterStepAs m l k a b c ≡ l
 step-unchanged = refused-after-step
 
 -- the net and the lent tally, as a record and as bytes
-pub run-unchanged : (l s : List ℕ) (fits : Bool) (t : Tally) → runOutcome l s fits ≢ 0 → (netAfterRun l s fits ≡ l) × (runTally l s fits t ≡ t)
-run-unchanged l s fits t n = (refused-after l s fits n, refused-tally l s fits n t)
+pub run-unchanged : (m : Mark) (l s : List ℕ) (fits : Bool) (t : Tally) → runOutcomeAs m l s fits ≢ 0
+    → (netAfterRunAs m l s fits ≡ l) × (runTallyAs m l s fits t ≡ t)
+run-unchanged m l s fits t n = (refused-after m l s fits n, refused-tally m l s fits n t)
 
-pub run-into-unchanged : (l s t : List ℕ) → runOutcome l s (tallyFits t) ≢ 0 → (netAfterRun l s (tallyFits t) ≡ l) × (tallyAfterRun l s t ≡ t)
-run-into-unchanged l s t n = (refused-after l s (tallyFits t) n, refused-bytes l s t n)
+pub run-into-unchanged : (m : Mark) (l s t : List ℕ) → runOutcomeAs m l s (tallyFits t) ≢ 0
+    → (netAfterRunAs m l s (tallyFits t) ≡ l) × (tallyAfterRunAs m l s t ≡ t)
+run-into-unchanged m l s t n = (refused-after m l s (tallyFits t) n, refused-bytes m l s t n)
+
+-- what is to be written
+pub convert-unchanged : (m n : Mark) (l out : List ℕ) → convertOutcome m l out ≢ 0 → afterConvert m n l out ≡ out
+convert-unchanged = refused-after-convert
 
 -- the reach list, as bytes and as records
 pub call-unchanged : (l : List ℕ) (g c : ℕ) (out : List ℕ) → calledIn l g c (listFits out) .outcome ≢ 0 → listAfterCall l g c out ≡ out

@@ -13,7 +13,8 @@ use Rattle.protocol.specs.Names.{firstFrom, sameName}
 use Rattle.protocol.specs.Calls.{treeOf}
 use Rattle.layout.specs.Layout.{netLength}
 use Rattle.plan.specs.Planned.{planShaped}
-use Rattle.shape.specs.Shape.{shaped}
+use Rattle.layout.specs.declared.form.Mark.{Mark}
+use Rattle.shape.specs.Shape.{shapedAs, shaped}
 use Rattle.net.specs.View.{view}
 use Rattle.listing.specs.Bench.{planPart, scriptPart}
 use Rattle.contracts.specs.Tests.{Test}
@@ -26,19 +27,23 @@ test k b = record { number = k; passes = b }
 abbrev pub freshTable : List ℕ → List ℕ → List Test
 freshTable plan net = test 10 (eqb (length net) netLength) ∷ test 9 (planShaped plan) ∷ []
 
--- 1 to 6
-abbrev pub stepTable : List ℕ → ℕ → ℕ → ℕ → ℕ → List Test
-stepTable l k a b c =
+-- 1 to 6, of a net in the form of this mark
+abbrev pub stepTable : Mark → List ℕ → ℕ → ℕ → ℕ → ℕ → List Test
+stepTable m l k a b c =
     let R = rule (view l) k a b c in
-    test 1 (shaped l) ∷ test 2 (action? k) ∷ test 3 (R .operands) ∷ test 4 (R .enabled) ∷ test 5 (R .clockRoom) ∷ test 6 (R .sendRoom) ∷ []
+    test 1 (shapedAs m l) ∷ test 2 (action? k) ∷ test 3 (R .operands) ∷ test 4 (R .enabled) ∷ test 5 (R .clockRoom) ∷ test 6 (R .sendRoom) ∷ []
 
 -- 11, 12
 abbrev pub scriptTable : List ℕ → List Test
 scriptTable s = test 11 (eqb (length s % 4) 0) ∷ test 12 (leb (length s) longestScript) ∷ []
 
 -- 1, 10, then the script's: a run by value has no tally lent, and passes 10
-abbrev pub runTable : List ℕ → List ℕ → Bool → List Test
-runTable l s fits = test 1 (shaped l) ∷ test 10 fits ∷ scriptTable s
+abbrev pub runTable : Mark → List ℕ → List ℕ → Bool → List Test
+runTable m l s fits = test 1 (shapedAs m l) ∷ test 10 fits ∷ scriptTable s
+
+-- 1 of what is read, 10 of what is written
+abbrev pub convertTable : Mark → List ℕ → List ℕ → List Test
+convertTable m l out = test 1 (shapedAs m l) ∷ test 10 (eqb (length out) netLength) ∷ []
 
 -- 1, 7: "no group has exactly these name bytes"
 abbrev pub findTable : List ℕ → List ℕ → List Test

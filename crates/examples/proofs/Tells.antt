@@ -17,28 +17,29 @@ use Rattle.protocol.specs.Examples.{examples}
 use Rattle.protocol.proofs.laws.Maps.{All-map}
 use Rattle.protocol.proofs.examples.Nets.{proper-shaped}
 use Rattle.protocol.proofs.examples.Examples.{examples-shaped}
+use Rattle.layout.specs.declared.form.Mark.the-variants.{Saved}
 use Rattle.shape.specs.Shape.{shaped}
 use Rattle.net.specs.View.{view}
 use Rattle.net.specs.Encode.{bytesOf}
 use Rattle.find.specs.Answers.{foundIn}
-use Rattle.step.specs.Steps.{stepOutcome}
+use Rattle.step.specs.Steps.{stepOutcomeAs}
 use Rattle.step.proofs.After.{after-bytes}
-use Rattle.run.specs.Runs.{runOutcome, netAfterRun, runTally, tallyAfterRun}
+use Rattle.run.specs.Runs.{runOutcomeAs, netAfterRun, runTallyAs, tallyAfterRunAs}
 use Rattle.run.proofs.Theorems.{run-shows}
 use Rattle.call.specs.Answers.{calledIn, listAfterCall}
 use Rattle.examples.specs.Tells.{Tells}
-use Rattle.net.proofs.Saved.{view-bytes, stands}
+use Rattle.net.proofs.Forms.{view-bytes, stands}
 
 -- well-shaped bytes answer and leave what the rules say of the net that they show
 shaped-tell : (l : List ℕ) → shaped l ≡ true → Tells l (view l)
-unfolding stepOutcome runOutcome runTally tallyAfterRun foundIn calledIn listAfterCall
+unfolding stepOutcomeAs runOutcomeAs runTallyAs tallyAfterRunAs foundIn calledIn listAfterCall
 shaped-tell l s = record {
   shape = s;
   shows = refl;
   outcome = λ k a b c. rw s refl;
-  step = λ k a b c. after-bytes l k a b c s;
+  step = λ k a b c. after-bytes Saved l k a b c s;
   script = λ t fits. rw s refl;
-  run = λ t. let w = run-shows l t s in sym (view-bytes _ (w .0)) ∙ ap bytesOf (w .1);
+  run = λ t. let w = run-shows Saved l t s in sym (view-bytes Saved _ (w .0)) ∙ ap bytesOf (w .1);
   tally = λ t old o. rw (s, eq-eqb _ _ o) refl;
   counts = λ t old e o. rw (s, eq-eqb _ _ e, eq-eqb _ _ o) refl;
   found = λ w. rw s refl;
@@ -47,7 +48,7 @@ shaped-tell l s = record {
 }
 
 pub bytes-tell : (N : Net) → Shaped N → Tells (bytesOf N) N
-bytes-tell N H = let w = stands N (bytesOf N) H refl in subst (Tells (bytesOf N)) (w .1) (shaped-tell (bytesOf N) (w .0))
+bytes-tell N H = let w = stands Saved N (bytesOf N) H refl in subst (Tells (bytesOf N)) (w .1) (shaped-tell (bytesOf N) (w .0))
 
 pub examples-tell : All (λ (r : Row). Tells (bytesOf (net (r .start))) (net (r .start))) examples
 examples-tell = All-map (λ r. bytes-tell (net (r .start))) examples-shaped
@@ -62,4 +63,4 @@ module _ (S : Start) (p : proper S ≡ true) (ts : List Step) where
 
   pub having-shows : view (netAfterRun (bytesOf (net S)) (scriptOf ts) true) ≡ net (S having ts)
   unfolding net
-  having-shows = run-shows (bytesOf (net S)) (scriptOf ts) (T .shape) .1 ∙ ap (λ (N : Net). run N (scriptOf ts) .net) (T .shows)
+  having-shows = run-shows Saved (bytesOf (net S)) (scriptOf ts) (T .shape) .1 ∙ ap (λ (N : Net). run N (scriptOf ts) .net) (T .shows)

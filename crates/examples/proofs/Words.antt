@@ -21,7 +21,7 @@ use Rattle.call.specs.Answers.{calledIn}
 use Rattle.call.proofs.Ends.{in-both}
 use Rattle.rig.specs.Face.{foundWord, calledWord}
 use Rattle.examples.specs.Words.{FoundRead, CalledRead, SmallFound, SmallCalled}
-use Rattle.net.proofs.Saved.{seen}
+use Rattle.net.proofs.Forms.{seen}
 
 -- ---- any values
 pub found-reads : (f : Found) → SmallFound f → FoundRead f
@@ -56,11 +56,11 @@ module _ (N : Net) (H : Shaped N) where
 pub find-reads : (l w : List ℕ) → FoundRead (foundIn l w)
 unfolding foundIn
 find-reads l w = found-reads (foundIn l w) (by-bool (shaped l)
-    (λ s. rw s (find-small (view l) (seen l s) w))
+    (λ s. rw s (find-small (view l) (seen _ l s) w))
     (λ s. rw s (omega arith, omega arith)))
 
 pub call-reads : (l : List ℕ) (g c : ℕ) (fits : Bool) → CalledRead (calledIn l g c fits)
 unfolding calledIn
 call-reads l g c fits = called-reads (calledIn l g c fits) (by-bool (shaped l)
-    (λ s. rw s (call-small (view l) (seen l s) g c fits))
+    (λ s. rw s (call-small (view l) (seen _ l s) g c fits))
     (λ s. rw s (omega arith, omega arith, omega arith)))

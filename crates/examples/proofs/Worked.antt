@@ -8,6 +8,7 @@
 --                       tell; the tally in bytes; a call by station 2 with its list in bytes
 --     worked-net        the bytes of a net: its front, its routes, two entries and a channel; worked-tells: they answer and leave what
 --                       the rules say of it
+--     worked-working    its bytes in the working form; worked-converts: a conversion leaves them, into any buffer of 15,728 bytes
 use mathlib.Core.Path.{_≡_, refl, ap, subst, _∙_}
 use mathlib.Core.Bool.{true}
 use mathlib.Core.List.{List, [], _++_}
@@ -33,24 +34,26 @@ use Rattle.protocol.specs.ExampleNets.{scriptOf, neighboursBy, planBy, net, eve
 use Rattle.protocol.specs.Examples.{line, listingScript, listed}
 use Rattle.protocol.proofs.examples.Nets.{proper-shaped}
 use Rattle.channel.specs.Slots.{flat, laid}
-use Rattle.layout.specs.Layout.{netLength, planLength}
+use Rattle.layout.specs.Layout.{netLength}
+use Rattle.layout.specs.declared.form.Mark.the-variants.{Saved, Working}
 use Rattle.bits.specs.Below.{allBelow}
-use Rattle.layout.specs.Bounded.{allBytes, zeros, same, table}
-use Rattle.plan.specs.Planned.{headerShaped, groupShaped, sameNames, newName, namesDistinct, bothWays, stationCabled, ofVersion1, planned, planShaped}
-use Rattle.forms.specs.Cells.{used, cells}
+use Rattle.layout.specs.Bounded.{allBytes, zeros, same, table, used}
+use Rattle.plan.specs.Planned.{headerShaped, groupShaped, sameNames, newName, namesDistinct, bothWays, stationCabled, planHeader, planned, planShaped}
+use Rattle.forms.specs.Cells.{cells}
 use Rattle.forms.specs.Plans.{planIn, nameBytes, headerBytes, groupCell, maskCell, planBytes}
 use Rattle.forms.proofs.plan.Holds.{HoldsPlan, plan-holds}
 use Rattle.forms.proofs.plan.Back.{plan-back}
 use Rattle.net.specs.View.{view}
-use Rattle.net.specs.Encode.{entryBytes, bytesOf}
+use Rattle.net.specs.Encode.{entryBytes, bytesAs, bytesOf}
 use Rattle.fresh.specs.Fresh.{freshOutcome, netAfterFresh}
 use Rattle.run.specs.Runs.{runOutcome, netAfterRun, tallyAfterRun}
 use Rattle.run.specs.Tallies.{tallyLength, tallyBytes}
 use Rattle.visit.specs.Lists.{listLength, listFits, reachBytes}
 use Rattle.call.specs.Answers.{calledIn, listAfterCall}
+use Rattle.convert.specs.Converts.{convertOutcome, afterConvert}
 use Rattle.demands.specs.Reachable.{Reachable, begun, ran}
 use Rattle.examples.specs.Tells.{Tells}
-use Rattle.examples.specs.Worked.{workedPlan, workedTally, workedList, workedNet, WorkedNet}
+use Rattle.examples.specs.Worked.{workedPlan, workedTally, workedList, workedNet, WorkedNet, WorkedWorking}
 use Rattle.examples.proofs.Tells.{bytes-tell, having-after, having-shows}
 
 pub worked-shaped : planShaped workedPlan ≡ true
@@ -69,14 +72,14 @@ linePlan = planOf (net line)
 line-shaped : ShapedPlan linePlan
 line-shaped = proper-shaped line line-proper .plan
 
-worked-holds : HoldsPlan linePlan (ofVersion1 planLength) workedPlan
-worked-holds = subst (HoldsPlan linePlan (ofVersion1 planLength)) same-bytes (plan-holds linePlan (ofVersion1 planLength) [])
+worked-holds : HoldsPlan linePlan planHeader workedPlan
+worked-holds = subst (HoldsPlan linePlan planHeader) same-bytes (plan-holds linePlan planHeader [])
   where
-    same-bytes : planBytes linePlan (ofVersion1 planLength) ++ [] ≡ workedPlan
+    same-bytes : planBytes linePlan planHeader ++ [] ≡ workedPlan
     same-bytes = unfold workedPlan planBytes headerBytes cells groupCell maskCell nameBytes bytes part net planBy fresh neighboursBy with has in refl
 
 pub worked-shows : planIn workedPlan ≡ linePlan
-worked-shows = plan-back linePlan line-shaped (ofVersion1 planLength) workedPlan worked-holds
+worked-shows = plan-back linePlan line-shaped planHeader workedPlan worked-holds
 
 -- ---- the listing: what the rules come to, by computing
 listing-computed : (proper listed ≡ true) × (scriptOutcome (scriptOf listingScript) ≡ 0)
@@ -101,7 +104,7 @@ module _ (buffer : List ℕ) (long : length buffer ≡ netLength) where
   abbrev ends : List ℕ
   ends = netAfterRun begins (scriptOf listingScript) true
 
-  pub listing-reachable : Reachable ends
+  pub listing-reachable : Reachable Saved ends
   listing-reachable = ran (begun workedPlan buffer (worked-begins .0)) (scriptOf listingScript) true
 
   pub listing-accepted : runOutcome begins (scriptOf listingScript) true ≡ 0
@@ -128,14 +131,14 @@ module _ (buffer : List ℕ) (long : length buffer ≡ netLength) where
       let o : called (net listed) 0 2 (listFits out) .outcome ≡ 0 = rw h (ap (λ (a : Called). a .outcome) (listing-computed .3)) in
       rw e (T .called 0 2 true ∙ listing-computed .3, T .list 0 2 out o ∙ listing-computed .4)
 
-pub worked-reachable : Reachable (netAfterFresh workedPlan (replicate netLength 0))
+pub worked-reachable : Reachable Saved (netAfterFresh workedPlan (replicate netLength 0))
 worked-reachable = begun workedPlan _ (worked-begins _ (length-replicate {A = ℕ} netLength 0) .0)
 
 -- ---- the net
 pub worked-net : WorkedNet (bytesOf (net workedNet))
 unfolding net planBy fresh neighboursBy scriptOf has with upd upd2 setEntry setChannel setRoute send group? station? near?
     route rules verdict rule outcome step then after lengthOutcome scriptOutcome run
-    bytesOf planBytes headerBytes cells groupCell maskCell used nameBytes entryBytes laid flat bytes part
+    bytesAs planBytes headerBytes cells groupCell maskCell used nameBytes entryBytes laid flat bytes part
 worked-net = record {
   header = refl;
   groups = refl;
@@ -146,6 +149,19 @@ worked-net = record {
   channel01 = refl;
 }
 
+pub worked-working : WorkedWorking (bytesAs Working (net workedNet))
+unfolding net planBy fresh neighboursBy scriptOf has with upd upd2 setEntry setChannel setRoute send group? station? near?
+    route rules verdict rule outcome step then after lengthOutcome scriptOutcome run
+    bytesAs planBytes headerBytes cells groupCell maskCell used nameBytes entryBytes laid flat bytes part
+worked-working = record {
+  header = refl;
+  routes = refl;
+  station0 = refl;
+  station1 = refl;
+  station2 = refl;
+  channel01 = refl;
+}
+
 pub worked-tells : Tells (bytesOf (net workedNet)) (net workedNet)
 worked-tells = bytes-tell (net workedNet) (proper-shaped workedNet is-proper)
   where
@@ -153,3 +169,10 @@ worked-tells = bytes-tell (net workedNet) (proper-shaped workedNet is-proper)
     is-proper = unfold proper planFits every groupFits differ cableFits entryFits messageFits below within sameName
         net planBy fresh neighboursBy scriptOf has with upd upd2 setEntry setChannel setRoute send group? station? near?
         route rules verdict rule outcome step then after lengthOutcome scriptOutcome run in refl
+
+pub worked-converts : (out : List ℕ) → length out ≡ netLength
+    → (convertOutcome Saved (bytesOf (net workedNet)) out ≡ 0) × (afterConvert Saved Working (bytesOf (net workedNet)) out ≡ bytesAs Working (net workedNet))
+unfolding convertOutcome afterConvert
+worked-converts out h =
+    let s = worked-tells .shape in
+    (rw (s, eq-eqb _ _ h) refl, rw (s, eq-eqb _ _ h) (ap (bytesAs Working) (worked-tells .shows)))

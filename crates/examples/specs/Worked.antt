@@ -59,3 +59,24 @@ pub record WorkedNet (l : List ℕ) : Type 0 where
   -- 1136: "by sender, then receiver: count, then 8 messages of 7, oldest first: kind, group, connected, clock (4)"
   pub channel01 : part 57 l (1136 + 912 * 0 + 57 * 1)
       ≡ (2 ∷ 1 ∷ 2 ∷ 0 ∷ 0 ∷ 0 ∷ 0 ∷ 0 ∷ 2 ∷ 1 ∷ 1 ∷ 0x09 ∷ 0x0A ∷ 0x0B ∷ 0x0C ∷ []) ++ replicate 42 0
+
+-- ---- the same net in the working form, of its bytes l: the mark, the entries of both stations, and what stands where it stood. An entry of
+-- a group past the last is all zero, here between the stations
+pub record WorkedWorking (l : List ℕ) : Type 0 where
+  -- 7: one
+  pub header : part 8 l 0 ≡ 0x00 ∷ 0x00 ∷ 0x3D ∷ 0x70 ∷ 1 ∷ 2 ∷ 3 ∷ 1 ∷ []
+  pub routes : part 32 l 112 ≡ (255 ∷ 1 ∷ []) ++ replicate 14 0 ++ (0 ∷ 255 ∷ []) ++ replicate 14 0
+  -- 368: by station, then group; a station's entries for all groups in 48 bytes
+  pub station0 : part 48 l (368 + 48 * 0)
+      ≡ (255 ∷ 255 ∷ []) ++ replicate 10 0
+      ++ (1 ∷ 255 ∷ 1 ∷ 0 ∷ 0x01 ∷ 0x02 ∷ 0x03 ∷ 0x04 ∷ 0 ∷ 0b10 ∷ 0 ∷ 0 ∷ [])
+      ++ (255 ∷ 255 ∷ []) ++ replicate 10 0
+      ++ replicate 12 0
+  pub station1 : part 48 l (368 + 48 * 1)
+      ≡ (255 ∷ 255 ∷ []) ++ replicate 10 0
+      ++ (255 ∷ 255 ∷ []) ++ replicate 10 0
+      ++ (255 ∷ 0 ∷ 0 ∷ 0 ∷ 0x05 ∷ 0x06 ∷ 0x07 ∷ 0x08 ∷ 0 ∷ 0 ∷ 0 ∷ 0b01 ∷ [])
+      ++ replicate 12 0
+  pub station2 : part 48 l (368 + 48 * 2) ≡ replicate 48 0
+  pub channel01 : part 57 l (1136 + 912 * 0 + 57 * 1)
+      ≡ (2 ∷ 1 ∷ 2 ∷ 0 ∷ 0 ∷ 0 ∷ 0 ∷ 0 ∷ 2 ∷ 1 ∷ 1 ∷ 0x09 ∷ 0x0A ∷ 0x0B ∷ 0x0C ∷ []) ++ replicate 42 0
