@@ -25,7 +25,7 @@ use Rattle.net.specs.Encode.{bytesAs}
 use Rattle.net.proofs.Forms.{entries-laid, Holds, bytes-hold, hold-bytes, view-bytes}
 use Rattle.convert.specs.inner.Carried.{entryCarried, remarked, carried}
 
--- a part that begins where another ends, or the other way round
+-- w bytes at `at` that stand before the entries, or behind them
 abbrev Beside : ℕ → ℕ → Type 0
 Beside w at = (at + w ≤ entriesAt) ⊎ (channelsAt ≤ at)
 
@@ -94,7 +94,7 @@ module _ (l : List ℕ) (m n : Mark) (s : shapedAs m l ≡ true) where
   K = all-kept l m n h
 
   -- a part that neither the mark nor the entries meet
-  plain : (w at : ℕ) → 8 ≤ at → (at + w ≤ entriesAt) ⊎ (channelsAt ≤ at) → part w (carried l m n) at ≡ part w l at
+  plain : (w at : ℕ) → 8 ≤ at → Beside w at → part w (carried l m n) at ≡ part w l at
   unfolding remarked
   plain w at a b = K .beside w at b ∙ part-splice-out w l 7 (markByte n ∷ []) at (inr a)
 

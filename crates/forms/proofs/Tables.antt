@@ -1,7 +1,7 @@
 -- Tables: each law is said once, for any thing and any grid.
 --     held      a table that passed its test holds what it shows;           shows: and what it shows is well shaped
 --     back      a table that holds well-shaped things shows them;           passed: and passes its test
---     put, kept one thing put anew, and something put beside the table
+--     put, kept, within    one thing put anew, something put beside the table, and where a thing stands
 use mathlib.Core.Path.{_≡_, sym, ap, _∙_}
 use mathlib.Core.Logic.{_⊎_, inl, inr, ⊎-elim, _≢_}
 use mathlib.Core.Bool.{true}
@@ -26,6 +26,11 @@ use Rattle.forms.proofs.Cells.{is-cell, is-zero, zero-cell}
 -- both numbers the same, or one of them not
 by-pair : {P : Type 0} (a b c d : ℕ) → (a ≡ c → b ≡ d → P) → ((a ≢ c) ⊎ (b ≢ d) → P) → P
 by-pair a b c d f g = by-eq a c (λ e. by-eq b d (λ e′. f e e′) (λ n. g (inr n))) (λ n. g (inl n))
+
+-- a thing that fits stands in its cell, within the stretch of its table
+pub within : {rows cols : ℕ} {A : Type 0} {S : Place → A → Type 0} (T : Table rows cols A S) (i j : ℕ) (v : A) → i < rows → j < cols → T .codec .Fits v
+    → (T .grid .from ≤ T .grid .at i j) × (T .grid .at i j + length (T .codec .out v) ≤ T .grid .to)
+within T i j v hi hj f = let w = T .grid .laid .inside i j hi hj in let n = T .codec .long v f in (w .0, omega arith)
 
 -- l holds the things t in the table T, of which m rows and n columns are used: each cell has the bytes of its thing
 abbrev pub HoldsIn : {rows cols : ℕ} {A : Type 0} {S : Place → A → Type 0} → Table rows cols A S → (m n : ℕ) → (ℕ → ℕ → A) → List ℕ → Type 0

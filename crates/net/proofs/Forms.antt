@@ -19,7 +19,7 @@ use Rattle.protocol.specs.Net.{Net, capacity, mostStations, mostGroups, setEntr
 use Rattle.protocol.specs.Fresh.{planOf}
 use Rattle.protocol.specs.Shaped.{version1, Shaped}
 use Rattle.protocol.proofs.shape.Changes.{blank-shaped}
-use Rattle.layout.specs.Layout.{stations, groups, root, neighbours, routesAt, routeAt, route, entriesAt, entrySize, channelsAt, channelSize, channelRowSize, channelAt, messageSize}
+use Rattle.layout.specs.Layout.{stations, groups, routesAt, routeAt, route, entriesAt, entrySize, channelsAt, channelSize, channelRowSize, channelAt, messageSize}
 use Rattle.channel.specs.Messages.{messagesOf, channelBytes}
 use Rattle.channel.specs.inner.Channels.{IsChannel}
 use Rattle.channel.proofs.Messages.{length-messages}
@@ -29,7 +29,7 @@ use Rattle.layout.specs.Marks.{markByte, markOf, byGroup, byStation, stretchAt,
 use Rattle.layout.specs.Bounded.{table, gridPass}
 use Rattle.layout.proofs.Bounded.{used-in}
 use Rattle.plan.specs.Planned.{netHeader}
-use Rattle.shape.specs.Shape.{entryShaped, countShaped, channelShaped, routesShaped, entriesShaped, channelsShaped, laidOut, shapedAs}
+use Rattle.shape.specs.Shape.{entryShapedAt, countShaped, channelShaped, routesShaped, entriesShaped, channelsShaped, laidOut, shapedAs}
 use Rattle.shape.proofs.Nets.{marked}
 use Rattle.forms.specs.Grids.{Laid, Grid}
 use Rattle.forms.specs.Forms.{Form, viewIn, laidOutIn, shapedIn, bytesIn}
@@ -104,7 +104,7 @@ shaped-is m l = refl
 -- the test of the entries goes cell by cell: in the saved form that is row after row, as routes and channels are tested
 pub entries-by-rows : (l : List ℕ) (n g : ℕ) → n ≤ mostStations → g ≤ mostGroups
     → entriesShaped l n Saved g ≡ table l entriesAt (byGroup Saved) mostGroups g (λ k.
-    table l (stretchAt Saved k) entrySize mostStations n (λ p. entryShaped (neighbours l p) (root l k) p l (entryAt Saved k p)))
+    table l (stretchAt Saved k) entrySize mostStations n (entryShapedAt l n Saved k))
 unfolding entriesShaped
 entries-by-rows l n g hn hg =
     either-way (cell-by-cell mostGroups mostStations (entryAt Saved) entrySize)

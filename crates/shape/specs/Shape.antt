@@ -10,7 +10,7 @@ use Rattle.protocol.specs.Net.{nil, mostStations, mostGroups, capacity, request
 use Rattle.layout.specs.Layout.{byte, netLength, stations, groups, root, neighbours, routesAt, routeAt, entrySize, channelsAt, channelRowSize, channelSize, channelAt, messageSize, messageAt}
 use Rattle.bits.specs.Below.{_implies_}
 use Rattle.layout.specs.declared.form.Mark.{Mark}
-use Rattle.layout.specs.declared.form.Mark.the-variants.{Saved, Working}
+use Rattle.layout.specs.declared.form.Mark.the-variants.{Saved}
 use Rattle.layout.specs.Marks.{entryAt}
 use Rattle.layout.specs.Bounded.{allBytes, zeros, table, cellPass, gridPass}
 use Rattle.plan.specs.Planned.{between, netHeader, planned}
@@ -59,11 +59,15 @@ module _ (l : List ℕ) (n : ℕ) where
   unfoldable pub routesShaped : Bool
   routesShaped = table l routesAt mostStations mostStations n routeRowShaped
 
+  -- the entry of group k and station p, where it stands
+  abbrev pub entryShapedAt : (m : Mark) (k p : ℕ) → Bool
+  entryShapedAt m k p = entryShaped (neighbours l p) (root l k) p l (entryAt m k p)
+
   abbrev pub entryCellShaped : (m : Mark) (g k p : ℕ) → Bool
-  entryCellShaped m g = cellPass l (entryAt m) entrySize g n (λ k p. entryShaped (neighbours l p) (root l k) p l (entryAt m k p))
+  entryCellShaped m g = cellPass l (entryAt m) entrySize g n (entryShapedAt m)
 
   unfoldable pub entriesShaped : (m : Mark) (g : ℕ) → Bool
-  entriesShaped m g = gridPass l (entryAt m) entrySize mostGroups mostStations g n (λ k p. entryShaped (neighbours l p) (root l k) p l (entryAt m k p))
+  entriesShaped m g = gridPass l (entryAt m) entrySize mostGroups mostStations g n (entryShapedAt m)
 
   abbrev pub channelRowShaped : (g s : ℕ) → Bool
   channelRowShaped g s = table l (channelsAt + channelRowSize * s) channelSize mostStations n (λ d. channelShaped (neighbours l s) g d l (channelAt s d))
@@ -82,6 +86,3 @@ shapedAs m l = eqb (length l) netLength && allBytes l && laidOut m l
 -- the net of document 01 is the saved form
 abbrev pub shaped : List ℕ → Bool
 shaped l = shapedAs Saved l
-
-abbrev pub workingShaped : List ℕ → Bool
-workingShaped l = shapedAs Working l

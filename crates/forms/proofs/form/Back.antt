@@ -1,6 +1,5 @@
 -- Bytes that hold a well-shaped net, in any form: they show it, and its bytes pass the test.
---     net-back, passes, stands      in one form
---     carried                       from one form of a version to another
+--     net-back, passes, stands
 use mathlib.Core.Path.{_≡_, refl, sym, ap, ap₂, _∙_}
 use mathlib.Core.Logic.{_⊎_, ⊎-elim}
 use mathlib.Core.Bool.{true}
@@ -27,7 +26,6 @@ use Rattle.forms.proofs.plan.Back.{back-stations, back-groups, back-roo
 use Rattle.forms.proofs.Tables.{ShapedIn}
 use Rattle.forms.proofs.Tables as tables
 use Rattle.forms.proofs.form.Holds.{HoldsNet, bytes-hold}
-use Rattle.forms.proofs.form.Seen.{seen}
 
 no-length : {A : Type 0} (l : List A) → (0 < length l → ⊥) → l ≡ []
 no-length [] f = refl
@@ -148,8 +146,3 @@ module _ {E M : Type 0} {v : Version E M} (φ : Form v) where
   -- bytes that are those of a well-shaped net pass, and show it
   pub stands : (N : NetOf E M) (l : List ℕ) → ShapedOf v N → l ≡ bytesIn φ N → (shapedIn φ l ≡ true) × (viewIn φ l ≡ N)
   stands N l H e = (ap (shapedIn φ) e ∙ passes N H, ap (viewIn φ) e ∙ net-back N H (bytesIn φ N) (bytes-hold φ N))
-
--- a net carried from one form to another: it passes there, and shows the same
-module _ {E M : Type 0} {v : Version E M} (φ ψ : Form v) (l : List ℕ) (s : shapedIn φ l ≡ true) where
-  pub carried : (shapedIn ψ (bytesIn ψ (viewIn φ l)) ≡ true) × (viewIn ψ (bytesIn ψ (viewIn φ l)) ≡ viewIn φ l)
-  carried = stands ψ (viewIn φ l) _ (seen φ l s) refl

@@ -5,7 +5,6 @@ use mathlib.Core.Logic.{inl, inr}
 use mathlib.Core.List.{List, []}
 use Prim.Native.Nat.{ℕ, _≤_, _<_}
 use native.Mathlib.Omega.{arith}
-use lib.ListN.{length}
 use Rattle.bits.specs.Parts.{splice}
 use Rattle.bits.proofs.Parts.{length-splice, part-splice-out}
 use Rattle.protocol.specs.Net.{NetOf, mostStations, mostGroups, setEntry, setChannel, setRoute}
@@ -18,13 +17,16 @@ use Rattle.forms.proofs.Tables as tables
 use Rattle.forms.proofs.form.Holds.{HoldsNet, bytes-hold, hold-bytes}
 
 module _ {E M : Type 0} {v : Version E M} (φ : Form v) where
-  -- the tables stand in this order
-  rising : (planLength ≤ φ .routes .grid .to) × (φ .entries .grid .from ≤ φ .entries .grid .to) × (φ .channels .grid .from ≤ φ .channels .grid .to)
-  rising =
+  -- where the tables begin and end, one after the other behind the plan
+  order : (φ .routes .grid .from ≡ planLength) × (φ .routes .grid .from ≤ φ .routes .grid .to)
+      × (φ .entries .grid .from ≡ φ .routes .grid .to) × (φ .entries .grid .from ≤ φ .entries .grid .to)
+      × (φ .channels .grid .from ≡ φ .entries .grid .to) × (φ .channels .grid .from ≤ φ .channels .grid .to)
+      × (φ .header .size ≡ φ .channels .grid .to)
+  order =
       let r = φ .routes .grid .laid .long (λ i j. []) in
       let t = φ .entries .grid .laid .long (λ i j. []) in
       let c = φ .channels .grid .laid .long (λ i j. []) in
-      let a = φ .first in (omega arith, omega arith, omega arith)
+      (φ .first, omega arith, φ .second, omega arith, φ .third, omega arith, φ .last)
 
   module _ (N : NetOf E M) (few : N .stations ≤ mostStations) (fewGroups : N .groups ≤ mostGroups) (l : List ℕ) (K : HoldsNet φ N l) where
     plan-kept : (at : ℕ) (vs : List ℕ) → planLength ≤ at → HoldsPlan (planOf N) (φ .header) (splice l at vs)
@@ -38,10 +40,8 @@ module _ {E M : Type 0} {v : Version E M} (φ : Form v) where
         → HoldsNet φ (setEntry N g p e) (splice l (φ .entries .grid .at g p) (φ .entries .codec .out e))
     unfolding setEntry
     put-entry g p e f hg hp =
-        let i = φ .entries .grid .laid .inside g p (omega arith) (omega arith) in
-        let n : length (φ .entries .codec .out e) ≡ φ .entries .grid .width = φ .entries .codec .long e f in
-        let long = K .long in let r = rising in
-        let a = φ .first in let b = φ .second in let c = φ .third in let d = φ .last in
+        let i = tables.within (φ .entries) g p e (omega arith) (omega arith) f in
+        let o = order in let long = K .long in
         record {
           long = length-splice l _ _ ∙ K .long;
           plan = plan-kept _ _ (omega arith);
@@ -54,10 +54,8 @@ module _ {E M : Type 0} {v : Version E M} (φ : Form v) where
         → HoldsNet φ (setChannel N s d ms) (splice l (φ .channels .grid .at s d) (φ .channels .codec .out ms))
     unfolding setChannel
     put-channel s d ms f hs hd =
-        let i = φ .channels .grid .laid .inside s d (omega arith) (omega arith) in
-        let n : length (φ .channels .codec .out ms) ≡ φ .channels .grid .width = φ .channels .codec .long ms f in
-        let long = K .long in let r = rising in
-        let a = φ .first in let b = φ .second in let c = φ .third in let e = φ .last in
+        let i = tables.within (φ .channels) s d ms (omega arith) (omega arith) f in
+        let o = order in let long = K .long in
         record {
           long = length-splice l _ _ ∙ K .long;
           plan = plan-kept _ _ (omega arith);
@@ -70,10 +68,8 @@ module _ {E M : Type 0} {v : Version E M} (φ : Form v) where
         → HoldsNet φ (setRoute N p d q) (splice l (φ .routes .grid .at p d) (φ .routes .codec .out q))
     unfolding setRoute
     put-route p d q f hp hd =
-        let i = φ .routes .grid .laid .inside p d (omega arith) (omega arith) in
-        let n : length (φ .routes .codec .out q) ≡ φ .routes .grid .width = φ .routes .codec .long q f in
-        let long = K .long in let r = rising in
-        let a = φ .first in let b = φ .second in let c = φ .third in let e = φ .last in
+        let i = tables.within (φ .routes) p d q (omega arith) (omega arith) f in
+        let o = order in let long = K .long in
         record {
           long = length-splice l _ _ ∙ K .long;
           plan = plan-kept _ _ (omega arith);

@@ -1,5 +1,5 @@
 -- Bytes that passed the test of a form: the net that they show is well shaped, they hold it, and are its bytes.
---     seen, held, view-bytes, view-injective
+--     seen, held, view-bytes
 use mathlib.Core.Path.{_≡_, sym, ap, subst, _∙_}
 use mathlib.Core.Logic.{inl, inr, _≢_}
 use mathlib.Core.Bool.{true}
@@ -116,6 +116,3 @@ module _ {E M : Type 0} {v : Version E M} (φ : Form v) where
         × ShapedChannelOf v (stations l) (groups l) (neighbours l x) y (φ .channels .codec .into (part (φ .channels .grid .width) l (φ .channels .grid .at x y)))
     channel-form x y h k = let t = φ .channels .grid .passes .used l n n _ few few channels-pass x y h k in
         (φ .channels .codec .form _ l _ small t, φ .channels .codec .shows _ l _ small t)
-
-  pub view-injective : (a b : List ℕ) → shapedIn φ a ≡ true → shapedIn φ b ≡ true → viewIn φ a ≡ viewIn φ b → a ≡ b
-  view-injective a b ha hb e = sym (view-bytes a ha) ∙ ap (bytesIn φ) e ∙ view-bytes b hb

@@ -1,12 +1,11 @@
 use mathlib.Core.Path.{sym, _∙_}
-use mathlib.Core.Bool.{Bool}
-use Prim.Native.Nat.{ℕ, _+_}
+use Prim.Native.Nat.{_+_}
 use Rattle.protocol.specs.Net.{mostGroups, mostStations}
-use Rattle.layout.specs.Layout.{neighbours, root as root-of, entrySize}
+use Rattle.layout.specs.Layout.{entrySize}
 use Rattle.layout.specs.Marks.{entryAt}
 use Rattle.layout.specs.Bounded.{zeros, used}
 use Rattle.layout.proofs.Bounded.{cell-used, cell-free}
-use Rattle.shape.specs.Shape.{entryShaped}
+use Rattle.shape.specs.Shape.{entryShaped, entryShapedAt}
 use borrow.Author.Needs.{needs}
 use Rattle.shape.proofs.station_entries.entry_cell_shaped.Statement.{statement}
 use Rattle.shape.proofs.station_entries.entry_cell_shaped.Tie as tie
@@ -32,28 +31,22 @@ add-zeros c = search needs
 zeros-requires : tie.Need-zeros-requires
 zeros-requires c κs = search needs
 
--- the test of the entry at each place
-abbrev tests : tie.Start → ℕ → ℕ → Bool
-tests s = let l = s .args .s .now in λ k p. entryShaped (neighbours l p) (root-of l k) p l (entryAt (s .args .m) k p)
-
 returns : tie.Need-returns
 unfolding used
 returns c = let x = c .before .before .before .before in
-    let s = x .before .before .before in
-    let a = s .args in
+    let a = x .before .before .before .args in
     let root = c .before .wide .ensures .0 ∙ c .before .before .root .ensures in
     c .entry-shaped .ensures
     ∙ (λ i. entryShaped (c .before .before .before .neighbours .ensures i) (root i) (a .p) (a .s .now) (x .before .entry-at .ensures .0 i))
-    ∙ sym (cell-used (a .s .now) (entryAt (a .m)) entrySize mostGroups mostStations (a .g) (a .n) (tests s) (a .k) (a .p) (x .if1 .taken))
+    ∙ sym (cell-used (a .s .now) (entryAt (a .m)) entrySize mostGroups mostStations (a .g) (a .n) (entryShapedAt (a .s .now) (a .n) (a .m)) (a .k) (a .p) (x .if1 .taken))
 
 returns-2 : tie.Need-returns-2
 unfolding used
 returns-2 c = let x = c .before in
-    let s = x .before .before .before in
-    let a = s .args in
+    let a = x .before .before .before .args in
     let at = x .before .entry-at .ensures .0 in
     c .zeros .ensures ∙ (λ i. zeros (a .s .now) (at i) (at i + entrySize))
-    ∙ sym (cell-free (a .s .now) (entryAt (a .m)) entrySize mostGroups mostStations (a .g) (a .n) (tests s) (a .k) (a .p) (x .if1 .left))
+    ∙ sym (cell-free (a .s .now) (entryAt (a .m)) entrySize mostGroups mostStations (a .g) (a .n) (entryShapedAt (a .s .now) (a .n) (a .m)) (a .k) (a .p) (x .if1 .left))
 
 pub entry-cell-shaped-spec : {M : Type 1} → statement M
 entry-cell-shaped-spec =
