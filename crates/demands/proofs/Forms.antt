@@ -1,5 +1,7 @@
 -- "Steps in both forms give the same outcome and corresponding nets": once, for all actions and any two forms; and so do runs.
---     other-form               bytes that are a net in one form are none in another; other-refused: and every function of that one gives 1
+--     two-forms                saved and working are two
+--     other-form               bytes that are a net in one form are none in another; other-refused: a step, a run and a conversion that take
+--                              that one give 1
 --     converted-corresponds    what a conversion leaves corresponds to what it read
 --     same-step                of corresponding nets, a step of the same numbers has the same outcome, and leaves corresponding nets
 --     same-run                 so does a run of the same script, with the same tally; same-bytes: and so in bytes
@@ -8,6 +10,7 @@ use mathlib.Core.Logic.{_≢_}
 use mathlib.Core.Bool.{Bool, true, false, cond}
 use mathlib.Core.List.{List}
 use Prim.Native.Nat.{ℕ, _/_}
+use native.Mathlib.Omega.{arith}
 use lib.Dec.{eqb}
 use lib.ListN.{length}
 use Rattle.bits.proofs.Cases.{by-bool, by-eq}
@@ -17,6 +20,8 @@ use Rattle.protocol.specs.Steps.{outcome, step}
 use Rattle.protocol.specs.Runs.{after, run}
 use Rattle.protocol.proofs.Theorems.{run-shaped}
 use Rattle.layout.specs.declared.form.Mark.{Mark}
+use Rattle.layout.specs.declared.form.Mark.the-variants.{Saved, Working}
+use Rattle.layout.specs.Marks.{markByte}
 use Rattle.shape.specs.Shape.{shapedAs}
 use Rattle.net.specs.View.{view}
 use Rattle.net.proofs.Forms.{seen, stands}
@@ -29,6 +34,9 @@ use Rattle.convert.specs.Converts.{convertOutcome, afterConvert}
 use Rattle.convert.proofs.Theorems.{converted-net, one-form}
 use Rattle.convert.proofs.Theorems as convert
 use Rattle.demands.specs.Corresponds.{Corresponds}
+
+pub two-forms : Saved ≢ Working
+two-forms e = let marks : markByte Saved ≡ markByte Working = ap markByte e in omega arith
 
 pub other-form : (m n : Mark) (l : List ℕ) → m ≢ n → shapedAs m l ≡ true → shapedAs n l ≡ false
 other-form m n l e s = by-bool (shapedAs n l) (λ t. absurd (e (one-form m n l s t))) (λ f. f)
