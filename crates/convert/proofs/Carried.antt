@@ -1,4 +1,4 @@
--- The bytes that are carried are those of the same net in the other form.
+-- The bytes that are carried are those of the same net in the form that is written.
 use mathlib.Core.Path.{_≡_, refl, sym, ap, ap₂, subst, _∙_}
 use mathlib.Core.Logic.{_⊎_, inl, inr, ⊎-elim, _≢_}
 use mathlib.Core.Bool.{true}

@@ -1,5 +1,5 @@
 -- What a conversion does, on any bytes and between any two forms.
---     converted-after    an accepted one leaves the net that was read, in the other form
+--     converted-after    an accepted one leaves the net that was read, in the form that is written
 --     converted-net      and so a well-shaped net there, that shows the same
 --     refused-after      a refusal leaves every byte
 --     back-again         there and back is where it began: the conversions are inverse to each other on nets
