@@ -201,26 +201,28 @@ pub fn refresh(form: Form, bytes: &mut [u8], group: u8, station: u8) -> bool {
     sent
 }
 
-/// The test for well shaped and then deliver, on the bytes; false if it is refused.
-pub fn deliver(form: Form, bytes: &mut [u8], from: u8, to: u8) -> bool {
+/// The test for well shaped and then deliver, on the bytes: the case of the reply, 0 for a request, nothing if it is
+/// refused.
+pub fn deliver(form: Form, bytes: &mut [u8], from: u8, to: u8) -> Option<u8> {
     if !well_shaped(form, bytes) | (from >= bytes[STATIONS_AT]) | (to >= bytes[STATIONS_AT]) {
-        return false;
+        return None;
     }
     let (p, q) = (usize::from(from), usize::from(to));
     let channel = channel_at(p, q);
     if bytes[channel] == 0 {
-        return false;
+        return None;
     }
     let message: [u8; MESSAGE_SIZE] = std::array::from_fn(|i| bytes[channel + 1 + i]);
     let at = entry_at(form, usize::from(message[1]), q);
-    let taken =
-        if message[0] == 1 { take_request(bytes, p, q, message[1], at) } else { take_reply(bytes, p, message, at) };
-    if taken {
-        bytes[channel] -= 1;
-        bytes.copy_within(channel + 1 + MESSAGE_SIZE..channel + CHANNEL_SIZE, channel + 1);
-        bytes[channel + CHANNEL_SIZE - MESSAGE_SIZE..channel + CHANNEL_SIZE].fill(0);
-    }
-    taken
+    let case = match message[0] {
+        1 if !take_request(bytes, p, q, message[1], at) => return None,
+        1 => 0,
+        _ => take_reply(bytes, p, message, at),
+    };
+    bytes[channel] -= 1;
+    bytes.copy_within(channel + 1 + MESSAGE_SIZE..channel + CHANNEL_SIZE, channel + 1);
+    bytes[channel + CHANNEL_SIZE - MESSAGE_SIZE..channel + CHANNEL_SIZE].fill(0);
+    Some(case)
 }
 
 /// The receiver's entry stands at `at`.
@@ -235,16 +237,23 @@ fn take_request(bytes: &mut [u8], from: usize, to: usize, group: u8, at: usize) 
     sent
 }
 
-/// The receiver's entry stands at `at`.
-fn take_reply(bytes: &mut [u8], from: usize, message: [u8; MESSAGE_SIZE], at: usize) -> bool {
+/// The receiver's entry stands at `at`. Gives the case.
+fn take_reply(bytes: &mut [u8], from: usize, message: [u8; MESSAGE_SIZE], at: usize) -> u8 {
     let waiting = u16::from_be_bytes([bytes[at + 10], bytes[at + 11]]) & !(1 << from);
     bytes[at + 10..at + 12].copy_from_slice(&waiting.to_be_bytes());
-    // big-endian numbers of one length compare as their bytes do
-    if (usize::from(bytes[at + 1]) == from) & (message[2] == 1) && message[3..7] > bytes[at + 4..at + 8] {
-        bytes[at] = from as u8;
-        bytes[at + 4..at + 8].copy_from_slice(&message[3..7]);
+    if usize::from(bytes[at + 1]) != from {
+        return 2;
     }
-    true
+    if message[2] != 1 {
+        return 3;
+    }
+    // big-endian numbers of one length compare as their bytes do
+    if message[3..7] <= bytes[at + 4..at + 8] {
+        return 4;
+    }
+    bytes[at] = from as u8;
+    bytes[at + 4..at + 8].copy_from_slice(&message[3..7]);
+    1
 }
 
 /// Puts a message behind those in the channel, if there is room.
@@ -288,38 +297,43 @@ mod tests {
 
     const FORMS: [Form; 2] = [Form::Saved, Form::Working];
 
-    /// Whether both accept the step; and then they leave the same bytes.
-    fn same_step(form: Form, net: &Net, one: Step) -> bool {
+    /// The case, if both accept the step: then they tell the same one, and leave the same bytes.
+    fn same_step(form: Form, net: &Net, one: Step) -> Option<u8> {
         let mut plain = shape::encode(form, net);
         let mut quick = plain.clone();
-        let ok = match one[0] {
-            3 => refresh(form, &mut quick, one[1], one[2]),
+        let case = match one[0] {
+            3 => refresh(form, &mut quick, one[1], one[2]).then_some(0),
             _ => deliver(form, &mut quick, one[1], one[2]),
         };
         let result = match form {
             Form::Saved => face::step(&mut plain, one),
             Form::Working => face::working_step(&mut plain, one),
         };
-        assert_eq!(ok, result == 0);
+        assert_eq!(case, (result & 255 == 0).then_some((result >> 8) as u8));
         assert!(plain == quick);
-        ok
+        case
     }
 
     #[test]
     fn refresh_and_deliver_are_those_of_the_model() {
         let mut random = Random::new(6);
-        let mut accepted = [0, 0];
-        for _ in 0..2_000 {
-            let net = make::shaped(&mut random);
+        // those accepted of each action, and the deliveries by their cases
+        let (mut accepted, mut cases) = ([0, 0], [0; 5]);
+        for round in 0..2_000 {
+            let net = if round % 2 == 0 { make::shaped(&mut random) } else { make::answered(&mut random) };
             for action in [3, 4] {
                 let (group, station) = (random.below(net.plan.groups.len()), random.below(net.plan.stations));
                 let one = make::likely_operands(&mut random, &net, action, group, station);
-                let ok = FORMS.map(|form| same_step(form, &net, one));
-                assert_eq!(ok[0], ok[1]);
-                accepted[usize::from(action) - 3] += u32::from(ok[0]);
+                let told = FORMS.map(|form| same_step(form, &net, one));
+                assert_eq!(told[0], told[1]);
+                accepted[usize::from(action) - 3] += u32::from(told[0].is_some());
+                if let (4, Some(case)) = (action, told[0]) {
+                    cases[usize::from(case)] += 1;
+                }
             }
         }
-        assert!(accepted[0] > 200 && accepted[1] > 200, "{accepted:?}");
+        assert!(accepted.iter().all(|&times| times > 200), "{accepted:?}");
+        assert!(cases.iter().all(|&times| times > 20), "{cases:?}");
     }
 
     #[test]

@@ -204,7 +204,70 @@ pub fn message(random: &mut Random, groups: usize) -> Message {
     }
 }
 
+// ---- nets with replies to be heard
+
+/// A well-shaped net in which nearly every channel holds replies: their clocks are beside those of the stations that
+/// they go to, or at an end.
+pub fn answered(random: &mut Random) -> Net {
+    let (stations, groups) = (2 + random.below(MOST_STATIONS - 1), 1 + random.below(MOST_GROUPS));
+    let plan = plan_of(random, stations, groups);
+    let mut net = shaped_over(random, plan);
+    for entry in net.entries.iter_mut().flatten() {
+        if random.chance(50) {
+            entry.clock = random.pick(&[0, 1, u32::MAX - 1, u32::MAX]);
+        }
+    }
+    for p in 0..stations {
+        for q in net.plan.neighbours[p].each() {
+            let count = random.below(CHANNEL_HOLDS + 1);
+            net.channels[p][q] = (0..count).map(|_| message_to(random, &net, q)).collect();
+        }
+    }
+    net
+}
+
+fn message_to(random: &mut Random, net: &Net, station: usize) -> Message {
+    let group = random.below(net.plan.groups.len());
+    if random.chance(15) {
+        return Message::Request { group };
+    }
+    let own = net.entries[group][station].clock;
+    let clock = match random.below(6) {
+        0 => own,
+        1 => own.saturating_add(1),
+        2 => own.saturating_sub(1),
+        3 => 0,
+        4 => u32::MAX,
+        _ => clock(random),
+    };
+    Message::Reply { group, connected: random.chance(50), clock }
+}
+
 // ---- steps
+
+/// A delivery of a reply, if a channel has one in front: half of the time from a tentative parent.
+pub fn hearing_step(random: &mut Random, net: &Net) -> Step {
+    let replies = front_replies(net);
+    let asked: Vec<_> = replies.iter().filter(|(.., asked)| *asked).copied().collect();
+    let first = if random.chance(50) { &asked } else { &replies };
+    match random.pick_any(first).or_else(|| random.pick_any(&replies)) {
+        Some((from, to, _)) => [4, from as u8, to as u8, 0],
+        None => likely_step(random, net),
+    }
+}
+
+/// Each reply that is the oldest in its channel: sender, receiver, and whether the sender is the tentative parent.
+fn front_replies(net: &Net) -> Vec<(usize, usize, bool)> {
+    let mut replies = Vec::new();
+    for (from, channels) in net.channels.iter().enumerate() {
+        for (to, channel) in channels.iter().enumerate() {
+            if let Some(Message::Reply { group, .. }) = channel.front() {
+                replies.push((from, to, net.entries[*group][to].tentative == Some(from)));
+            }
+        }
+    }
+    replies
+}
 
 /// A step that is often accepted by this net.
 pub fn likely_step(random: &mut Random, net: &Net) -> Step {
@@ -310,9 +373,21 @@ pub fn any_step(random: &mut Random, net: &Net) -> Step {
 
 /// So many steps in turn on this net, which is left as they leave it.
 pub fn steps(random: &mut Random, net: &mut Net, count: usize) -> Vec<Step> {
+    steps_of(random, net, count, any_step)
+}
+
+/// The same, and most of them deliver a reply.
+pub fn hearing_steps(random: &mut Random, net: &mut Net, count: usize) -> Vec<Step> {
+    steps_of(random, net, count, |random, net| match random.below(4) {
+        0 => any_step(random, net),
+        _ => hearing_step(random, net),
+    })
+}
+
+fn steps_of(random: &mut Random, net: &mut Net, count: usize, one: fn(&mut Random, &Net) -> Step) -> Vec<Step> {
     let mut steps = Vec::with_capacity(count);
     for _ in 0..count {
-        let one = any_step(random, net);
+        let one = one(random, net);
         let _ = step(net, one);
         steps.push(one);
     }
@@ -331,7 +406,7 @@ mod tests {
         let mut random = Random::new(1);
         for _ in 0..300 {
             assert!(Plan::decode(&plan(&mut random).encode()).is_some());
-            for net in [grown(&mut random), shaped(&mut random), treed(&mut random)] {
+            for net in [grown(&mut random), shaped(&mut random), treed(&mut random), answered(&mut random)] {
                 for form in [Form::Saved, Form::Working] {
                     assert_eq!(decode(form, &encode(form, &net)).as_ref(), Some(&net));
                 }

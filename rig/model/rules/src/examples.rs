@@ -42,6 +42,9 @@ fn take_all(net: &mut Net, steps: &[Step]) {
     }
 }
 
+/// 20 was the size before the replies were counted by their cases.
+pub const OTHER_TALLY_SIZES: [usize; 7] = [0, 1, 20, 35, 37, 40, 72];
+
 pub const LISTING: [Step; 13] = [
     [9, 2, 0, 1],
     [9, 1, 0, 0],
@@ -64,7 +67,8 @@ fn the_listing() {
     assert_eq!(face::fresh(&line(3, &[b"A"]).encode(), &mut bytes), 0);
     let mut tally = vec![9; TALLY_BYTES];
     assert_eq!(face::run(&mut bytes, &LISTING.concat(), &mut tally), 0);
-    assert_eq!(tally, [0, 0, 0, 13, 0, 0, 0, 0, 0, 0, 0, 6, 0, 0, 0, 6, 0, 0, 0, 0]);
+    let counts = [13, 0, 6, 6, 0, 2, 0, 1, 0];
+    assert_eq!(tally, counts.map(|count| [0, 0, 0, count]).concat());
     let net = decode(Form::Saved, &bytes).unwrap();
     assert_eq!(net.waiting_messages(), 0);
     let lines: Vec<_> = net.entries[0].iter().map(|e| (e.parent, e.clock, e.member, e.children.0)).collect();
@@ -78,6 +82,7 @@ fn the_listing() {
 fn the_lines_of_the_listing() {
     let wanted = "\
 run accepted 13 refused 0 sent 6 delivered 6 lost 0 waiting 0
+replies adopted 2 not-tentative 0 unconnected 1 not-greater 0
 group 0 name 41 root 0
 0 parent - clock 1 member 0 children 1
 1 parent 0 clock 1 member 0 children 2
@@ -101,8 +106,9 @@ fn children_are_split_by_commas() {
     let answer = listing::answer(&[plan.encode(), steps.concat(), more.concat()].concat());
     let lines: Vec<&str> = answer.lines().collect();
     assert_eq!(lines[0], "run accepted 8 refused 0 sent 4 delivered 2 lost 0 waiting 2");
-    assert_eq!(lines[6], "group 1 name 00ff7a root 1");
-    assert_eq!(lines[8], "1 parent - clock 0 member 0 children 0,2");
+    assert_eq!(lines[1], "replies adopted 0 not-tentative 0 unconnected 0 not-greater 0");
+    assert_eq!(lines[7], "group 1 name 00ff7a root 1");
+    assert_eq!(lines[9], "1 parent - clock 0 member 0 children 0,2");
 }
 
 #[test]
@@ -113,25 +119,6 @@ fn a_root_never_ticked_is_not_adopted() {
     take_all(&mut net, &[[4, 0, 1, 0]]);
     assert_eq!(net.entries[0][1].parent, None);
     assert!(net.entries[0][1].waiting.is_empty());
-}
-
-/// The parent of station 1, at clock 1 with station 0 as tentative parent, once this reply is delivered.
-fn parent_after_reply(connected: bool, clock: u32) -> Option<usize> {
-    let mut net = fresh_line(2);
-    net.entries[0][1].member = true;
-    net.entries[0][1].clock = 1;
-    net.entries[0][1].tentative = Some(0);
-    net.channels[0][1].push_back(Message::Reply { group: 0, connected, clock });
-    take_all(&mut net, &[[4, 0, 1, 0]]);
-    assert_eq!(net.entries[0][1].clock, if net.entries[0][1].parent.is_some() { clock } else { 1 });
-    net.entries[0][1].parent
-}
-
-#[test]
-fn only_a_connected_reply_strictly_ahead_is_adopted() {
-    assert_eq!(parent_after_reply(true, 1), None);
-    assert_eq!(parent_after_reply(true, 2), Some(0));
-    assert_eq!(parent_after_reply(false, 2), None);
 }
 
 #[test]
@@ -177,13 +164,15 @@ fn scripts_of_every_kind_of_length() {
         assert!(result == 0 || tally.iter().all(|&byte| byte == 9));
         (result, tally)
     };
-    assert_eq!(result(0, 20), (0, vec![0; 20]));
-    assert_eq!(result(3, 20).0, 11);
-    assert_eq!(result(16_384, 20).0, 0);
-    assert_eq!(result(16_384, 20).1[4..8], [0, 0, 16, 0]);
-    assert_eq!(result(16_387, 20).0, 11);
-    assert_eq!(result(16_388, 20).0, 12);
-    assert_eq!(result(16_387, 19).0, 10);
+    assert_eq!(result(0, 36), (0, vec![0; 36]));
+    assert_eq!(result(3, 36).0, 11);
+    assert_eq!(result(16_384, 36).0, 0);
+    assert_eq!(result(16_384, 36).1[4..8], [0, 0, 16, 0]);
+    assert_eq!(result(16_387, 36).0, 11);
+    assert_eq!(result(16_388, 36).0, 12);
+    for size in OTHER_TALLY_SIZES {
+        assert_eq!(result(16_387, size).0, 10);
+    }
 }
 
 #[test]

@@ -6,15 +6,16 @@ use crate::layout::*;
 use crate::net::Net;
 use crate::outcome::*;
 use crate::plan::Plan;
+use crate::reply::Case;
 use crate::shape::{decode, encode};
-use crate::step::Step;
+use crate::step::{Moved, Step};
 
 pub fn fresh(plan: &[u8], net: &mut [u8]) -> u32 {
     number(try_fresh(plan, net))
 }
 
 pub fn step(net: &mut [u8], one: Step) -> u32 {
-    number(try_step(Form::Saved, net, one))
+    step_number(try_step(Form::Saved, net, one))
 }
 
 pub fn run(net: &mut [u8], script: &[u8], tally: &mut [u8]) -> u32 {
@@ -39,12 +40,17 @@ pub fn to_saved(work: &[u8], net: &mut [u8]) -> u32 {
 
 /// A step of a net in the working form.
 pub fn working_step(work: &mut [u8], one: Step) -> u32 {
-    number(try_step(Form::Working, work, one))
+    step_number(try_step(Form::Working, work, one))
 }
 
 /// A run on a net in the working form.
 pub fn working_run(work: &mut [u8], script: &[u8], tally: &mut [u8]) -> u32 {
     number(try_run(Form::Working, work, script, tally))
+}
+
+/// The number that tells of a step: its outcome, and above it the case of the reply that it delivered.
+pub fn step_number(answer: Result<Moved, Outcome>) -> u32 {
+    number(answer.map(|moved| moved.case.map_or(0, Case::number)))
 }
 
 fn number(answer: Result<u32, Outcome>) -> u32 {
@@ -63,11 +69,11 @@ fn try_fresh(plan: &[u8], net: &mut [u8]) -> Result<u32, Outcome> {
 }
 
 /// Tests 1, then those of the step.
-fn try_step(form: Form, bytes: &mut [u8], one: Step) -> Result<u32, Outcome> {
+fn try_step(form: Form, bytes: &mut [u8], one: Step) -> Result<Moved, Outcome> {
     let mut net = decoded(form, bytes)?;
-    crate::step::step(&mut net, one)?;
+    let moved = crate::step::step(&mut net, one)?;
     bytes.copy_from_slice(&encode(form, &net));
-    Ok(0)
+    Ok(moved)
 }
 
 /// Tests 1, 10, 11, 12.

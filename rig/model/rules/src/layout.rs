@@ -3,7 +3,7 @@
 pub const PLAN_BYTES: usize = 112;
 pub const NET_BYTES: usize = 15_728;
 pub const LIST_BYTES: usize = 48;
-pub const TALLY_BYTES: usize = 20;
+pub const TALLY_BYTES: usize = 36;
 pub const SCRIPT_BYTES_MOST: usize = 16_384;
 
 pub const MOST_STATIONS: usize = 16;

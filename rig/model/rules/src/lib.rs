@@ -14,6 +14,7 @@ pub mod listing;
 pub mod net;
 pub mod outcome;
 pub mod plan;
+pub mod reply;
 pub mod run;
 pub mod shape;
 pub mod step;
@@ -22,3 +23,5 @@ pub mod step;
 mod examples;
 #[cfg(test)]
 mod form_examples;
+#[cfg(test)]
+mod reply_examples;

@@ -5,6 +5,7 @@ use crate::layout::{PLAN_BYTES, SCRIPT_BYTES_MOST};
 use crate::net::{Entry, Net};
 use crate::outcome::*;
 use crate::plan::{Plan, Stations};
+use crate::reply::Replies;
 use crate::run::{run, Tally};
 
 /// The answer to the whole of an input, a plan and then a script: the listing, or the number of the refusal.
@@ -27,17 +28,27 @@ fn try_listing(input: &[u8]) -> Result<String, Outcome> {
 }
 
 fn listing(net: &Net, tally: &Tally) -> String {
-    let Tally { accepted, refused, sent, delivered, lost } = tally;
-    let waiting = net.waiting_messages();
-    let mut lines = vec![format!(
-        "run accepted {accepted} refused {refused} sent {sent} delivered {delivered} lost {lost} waiting {waiting}"
-    )];
+    let mut lines = vec![run_line(tally, net.waiting_messages()), replies_line(&tally.replies)];
     for (k, group) in net.plan.groups.iter().enumerate() {
         let name: String = group.name.iter().map(|byte| format!("{byte:02x}")).collect();
         lines.push(format!("group {k} name {name} root {}", group.root));
         lines.extend(net.entries[k].iter().enumerate().map(|(p, entry)| station_line(p, entry)));
     }
     lines.iter().map(|line| format!("{line}\n")).collect()
+}
+
+fn run_line(tally: &Tally, waiting: usize) -> String {
+    let Tally { accepted, refused, sent, delivered, lost, .. } = tally;
+    format!(
+        "run accepted {accepted} refused {refused} sent {sent} delivered {delivered} lost {lost} waiting {waiting}"
+    )
+}
+
+fn replies_line(replies: &Replies) -> String {
+    let Replies { adopted, not_tentative, unconnected, not_greater } = replies;
+    format!(
+        "replies adopted {adopted} not-tentative {not_tentative} unconnected {unconnected} not-greater {not_greater}"
+    )
 }
 
 fn station_line(station: usize, entry: &Entry) -> String {

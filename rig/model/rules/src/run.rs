@@ -1,6 +1,7 @@
 //! A run of a script, with its tally.
 
 use crate::net::Net;
+use crate::reply::Replies;
 use crate::step::{step, Step};
 
 #[derive(Clone, Copy, Debug, Default, PartialEq, Eq)]
@@ -10,13 +11,14 @@ pub struct Tally {
     pub sent: u32,
     pub delivered: u32,
     pub lost: u32,
+    pub replies: Replies,
 }
 
 impl Tally {
-    /// Five counts of 4 bytes.
+    /// Nine counts of 4 bytes.
     pub fn encode(&self) -> Vec<u8> {
         let counts = [self.accepted, self.refused, self.sent, self.delivered, self.lost];
-        counts.iter().flat_map(|count| count.to_be_bytes()).collect()
+        counts.into_iter().chain(self.replies.counts()).flat_map(u32::to_be_bytes).collect()
     }
 }
 
@@ -36,6 +38,9 @@ fn count_step(net: &mut Net, one: Step, tally: &mut Tally) {
             tally.sent += moved.sent;
             tally.delivered += moved.delivered;
             tally.lost += moved.lost;
+            if let Some(case) = moved.case {
+                tally.replies.count(case);
+            }
         }
         Err(_) => tally.refused += 1,
     }

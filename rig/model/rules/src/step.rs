@@ -4,20 +4,22 @@
 use crate::layout::{CHANNEL_HOLDS, NIL};
 use crate::net::{Message, Net};
 use crate::outcome::*;
+use crate::reply::{case_of, Case};
 
 /// An action number and its operands a, b and c.
 pub type Step = [u8; 4];
 
-/// The messages that an accepted step sent, delivered and lost.
+/// The messages that an accepted step sent, delivered and lost, and the case of the reply, if it delivered one.
 #[derive(Clone, Copy, Debug, Default, PartialEq, Eq)]
 pub struct Moved {
     pub sent: u32,
     pub delivered: u32,
     pub lost: u32,
+    pub case: Option<Case>,
 }
 
-const NOTHING: Moved = Moved { sent: 0, delivered: 0, lost: 0 };
-const ONE_SENT: Moved = Moved { sent: 1, delivered: 0, lost: 0 };
+const NOTHING: Moved = Moved { sent: 0, delivered: 0, lost: 0, case: None };
+const ONE_SENT: Moved = Moved { sent: 1, ..NOTHING };
 
 pub fn step(net: &mut Net, step: Step) -> Result<Moved, Outcome> {
     let [action, a, b, c] = step;
@@ -85,35 +87,35 @@ fn deliver(net: &mut Net, a: u8, b: u8, c: u8) -> Result<Moved, Outcome> {
     let (from, to) = neighbour_operands(net, a, b)?;
     unused_operand(c)?;
     let message = *net.channels[from][to].front().ok_or(NOT_ENABLED)?;
-    let sent = match message {
+    let taken = match message {
         Message::Request { group } => take_request(net, group, from, to)?,
         Message::Reply { group, connected, clock } => take_reply(net, group, from, to, connected, clock),
     };
     net.channels[from][to].pop_front();
-    Ok(Moved { sent, delivered: 1, lost: 0 })
+    Ok(Moved { delivered: 1, ..taken })
 }
 
 /// The receiver adds the sender to its children and replies with its connected flag and clock.
-fn take_request(net: &mut Net, group: usize, from: usize, to: usize) -> Result<u32, Outcome> {
+fn take_request(net: &mut Net, group: usize, from: usize, to: usize) -> Result<Moved, Outcome> {
     demand(!net.is_full(to, from), CHANNEL_FULL)?;
     let connected = net.is_connected(group, to);
     let entry = &mut net.entries[group][to];
     entry.children.add(from);
     let reply = Message::Reply { group, connected, clock: entry.clock };
     net.channels[to][from].push_back(reply);
-    Ok(1)
+    Ok(ONE_SENT)
 }
 
-/// The receiver stops waiting on the sender, and takes it as parent if it is the tentative one, connected and
-/// strictly ahead.
-fn take_reply(net: &mut Net, group: usize, from: usize, to: usize, connected: bool, clock: u32) -> u32 {
+/// The receiver stops waiting on the sender; if it adopts it, the sender becomes parent and the clock is taken.
+fn take_reply(net: &mut Net, group: usize, from: usize, to: usize, connected: bool, clock: u32) -> Moved {
     let entry = &mut net.entries[group][to];
+    let case = case_of(entry, from, connected, clock);
     entry.waiting.remove(from);
-    if entry.tentative == Some(from) && connected && clock > entry.clock {
+    if case == Case::Adopted {
         entry.parent = Some(from);
         entry.clock = clock;
     }
-    0
+    Moved { case: Some(case), ..NOTHING }
 }
 
 /// The message at a position is removed; later ones move up.
@@ -122,7 +124,7 @@ fn lose(net: &mut Net, a: u8, b: u8, c: u8) -> Result<Moved, Outcome> {
     let position = usize::from(c);
     demand(position < CHANNEL_HOLDS, OPERAND)?;
     net.channels[from][to].remove(position).ok_or(NOT_ENABLED)?;
-    Ok(Moved { sent: 0, delivered: 0, lost: 1 })
+    Ok(Moved { lost: 1, ..NOTHING })
 }
 
 /// A station stops waiting on a neighbour when neither its request nor the reply is in the channels.

@@ -156,12 +156,18 @@ fn well_shaped_test() {
     tell("the same", 1.0, times, "Rust: the model's decoding");
 }
 
-/// A full net in which a child can refresh: its parent and the empty channels between them let it.
+/// The case of the reply in a round of `one_step`, and the results of its steps.
+const NOT_GREATER: u8 = 4;
+const RESULTS: [u32; 3] = [0, 0, (NOT_GREATER as u32) << 8];
+
+/// A full net in which a child can refresh: its parent and the empty channels between them let it. The parent's reply
+/// goes through the whole test, and its clock is not greater.
 fn net_to_refresh() -> (Net, u8, u8) {
     let mut net = full_net(&mut Random::new(2));
     let root = net.root(0);
     let child = (root + 1) % MOST_STATIONS;
-    (net.entries[0][child].parent, net.entries[0][child].waiting) = (Some(root), Stations::default());
+    let entry = &mut net.entries[0][child];
+    (entry.parent, entry.tentative, entry.waiting) = (Some(root), Some(root), Stations::default());
     net.entries[0][root].children.add(child);
     net.entries[0][root].clock = 0;
     net.channels[root][child].clear();
@@ -176,18 +182,17 @@ fn one_step(form: Form, what: &str) {
     let round = [[3, 0, p, 0], [4, p, q, 0], [4, q, p, 0]];
     let (mut theirs, mut ours, mut plain) = (before.clone(), before.clone(), before.clone());
     let mut library =
-        || assert!(round.iter().all(|&one| library_step(form, black_box(&mut theirs), black_box(one)) == 0));
+        || assert!(round.map(|one| library_step(form, black_box(&mut theirs), black_box(one))) == RESULTS);
     let mut rust = || {
         let bytes = black_box(&mut ours);
-        assert!(
-            fast::refresh(form, bytes, 0, p) && fast::deliver(form, bytes, p, q) && fast::deliver(form, bytes, q, p)
-        );
+        assert!(fast::refresh(form, bytes, 0, p));
+        assert!(fast::deliver(form, bytes, p, q) == Some(0) && fast::deliver(form, bytes, q, p) == Some(NOT_GREATER));
     };
     library();
     rust();
     let times = measure(&mut library, &mut rust);
     tell(what, 3.0, times, "mean of refresh, deliver, deliver; Rust: branch-free test, then on the bytes");
-    let rust = || assert!(round.iter().all(|&one| model_step(form, black_box(&mut plain), black_box(one)) == 0));
+    let rust = || assert!(round.map(|one| model_step(form, black_box(&mut plain), black_box(one))) == RESULTS);
     let times = measure(&mut library, rust);
     tell("the same", 3.0, times, "Rust: the model, which decodes, steps and encodes");
     assert!(theirs == before && ours == before && plain == before);
@@ -228,7 +233,8 @@ fn tell_script() {
     let (mut net, script) = net_and_script();
     let tally = run::run(&mut net, &script);
     let busy = net.channels.iter().flatten().flatten().filter(|m| matches!(m, Message::Request { .. })).count();
-    println!("speed: that run accepted {}, refused {}, left {busy} requests", tally.accepted, tally.refused);
+    let (accepted, refused, heard) = (tally.accepted, tally.refused, tally.replies.counts().iter().sum::<u32>());
+    println!("speed: that run accepted {accepted}, refused {refused}, heard {heard} replies, left {busy} requests");
 }
 
 fn conversion(from: Form, what: &str) {
