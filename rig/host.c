@@ -1,4 +1,5 @@
-/* A host to start from: it builds a plan, makes the net, steps it, asks whom a call reaches, and takes it through the working form.
+/* A host to start from: it builds a plan, makes the net, steps it, asks whom a call reaches, tells why a reply was not taken, and
+ * takes the net through the working form.
  *
  * The net is the example of the requirements: three stations in a line, 0-1-2, and one group, "A", with root 0.
  * Nothing is read, and what is printed is always the same: rig/build runs this host and holds it to rig/host.expected.
@@ -34,12 +35,10 @@ static int accepted(uint32_t result)
     return KEP_OUTCOME(result) == KEP_ACCEPTED;
 }
 
-/* A later library may have outcomes that this host has no words for. */
-static const char *outcome_text(unsigned outcome)
+/* A later library may have numbers that this host has no words for. */
+static const char *text_of(unsigned number, const char *const *texts, size_t count)
 {
-    int known = outcome < sizeof outcome_texts / sizeof *outcome_texts && outcome_texts[outcome];
-
-    return known ? outcome_texts[outcome] : "for a reason that this host does not know";
+    return number < count && texts[number] ? texts[number] : "for a reason that this host does not know";
 }
 
 static void print_outcome(uint32_t result)
@@ -49,7 +48,7 @@ static void print_outcome(uint32_t result)
     if (accepted(result))
         printf("accepted\n");
     else
-        printf("refused %u, %s\n", outcome, outcome_text(outcome));
+        printf("refused %u, %s\n", outcome, text_of(outcome, outcome_texts, sizeof outcome_texts / sizeof *outcome_texts));
 }
 
 static void tell(const char *what, uint32_t result)
@@ -150,10 +149,28 @@ typedef uint32_t step_function(uint8_t *net, size_t net_len, uint8_t action, uin
 typedef uint32_t run_function(uint8_t *net, size_t net_len, const uint8_t *script, size_t script_len, uint8_t *tally,
                               size_t tally_len);
 
+/* What became of a reply, by the number of its case. */
+static const char *const case_texts[] = {
+    [KEP_ADOPTED] = "the reply is adopted",
+    [KEP_NOT_TENTATIVE] = "the reply is not from the tentative parent",
+    [KEP_UNCONNECTED] = "the reply is from a station that is not connected",
+    [KEP_NOT_GREATER] = "the reply's clock is not greater",
+};
+
+static void print_stepped(uint32_t result)
+{
+    unsigned number = KEP_CASE(result);
+
+    if (number == KEP_NO_REPLY)
+        print_outcome(result);
+    else
+        printf("accepted, case %u, %s\n", number, text_of(number, case_texts, sizeof case_texts / sizeof *case_texts));
+}
+
 static void step_in(step_function *take, uint8_t *net, const char *what, uint8_t action, uint8_t a, uint8_t b, uint8_t c)
 {
     printf("%s (%d %d %d %d): ", what, action, a, b, c);
-    print_outcome(take(net, KEP_NET_BYTES, action, a, b, c));
+    print_stepped(take(net, KEP_NET_BYTES, action, a, b, c));
 }
 
 static void step(uint8_t *net, const char *what, uint8_t action, uint8_t a, uint8_t b, uint8_t c)
@@ -170,11 +187,12 @@ static void step_by_step(uint8_t *net)
     step(net, "station 2 asks", ASK, 0, 2, 0);
     /* A refused step changes nothing: the host goes on with the net as it was. */
     step(net, "the root asks", ASK, 0, 0, 0);
+    step(net, "station 1 hears the request", DELIVER, 2, 1, 0);
+    step(net, "station 2 hears the reply", DELIVER, 1, 2, 0);
 }
 
-/* The rest of the example: the request and its reply, station 1 joining in turn, and station 2 asking again. */
+/* The rest of the example: station 1 joins in turn, and station 2 asks again. */
 static const uint8_t rest[] = {
-    DELIVER, 2, 1, 0, DELIVER, 1, 2, 0,
     ASK, 0, 1, 0, DELIVER, 1, 0, 0, DELIVER, 0, 1, 0,
     ASK, 0, 2, 0, DELIVER, 2, 1, 0, DELIVER, 1, 2, 0,
 };
@@ -187,15 +205,24 @@ static unsigned long number_at(const uint8_t *at)
 
 static void run_in(run_function *run, uint8_t *net, const char *what, const uint8_t *script, size_t script_len)
 {
-    static const char *const names[] = {"accepted", "refused", "sent", "delivered", "lost"};
+    static const char *const names[] = {"accepted", "refused",       "sent",        "delivered", "lost",
+                                        "adopted",  "not tentative", "unconnected", "not greater"};
     uint8_t tally[KEP_TALLY_BYTES];
     unsigned i;
 
     must(what, run(net, KEP_NET_BYTES, script, script_len, tally, sizeof tally));
     printf("%s of %u steps:", what, (unsigned)(script_len / 4));
-    for (i = 0; i < 5; i++)
-        printf(" %s %lu", names[i], number_at(tally + 4 * i));
+    for (i = 0; i < sizeof tally / 4; i++)
+        printf("%s %s %lu", i == 5 ? ", replies" : "", names[i], number_at(tally + 4 * i));
     printf("\n");
+}
+
+/* Five counts are no tally. A run that is refused takes no step. */
+static void run_into_five_counts(uint8_t *net)
+{
+    uint8_t tally[20];
+
+    tell("a run with a tally of 20 bytes", kep_run(net, KEP_NET_BYTES, rest, sizeof rest, tally, sizeof tally));
 }
 
 /* ---- Groups by name, and calls */
@@ -237,6 +264,22 @@ static void call(const uint8_t *net, uint8_t group, uint8_t station)
         print_reached(list + 3 * i);
 }
 
+/* ---- Replies that are not taken */
+
+/* Station 2 leaves before the reply is there, and then has no tentative parent. When it comes back, it still has its clock, and
+ * that of station 1 is not greater until the root ticks. */
+static void leave_and_come_back(uint8_t *net)
+{
+    step(net, "station 2 asks", ASK, 0, 2, 0);
+    step(net, "station 1 hears the request", DELIVER, 2, 1, 0);
+    step(net, "station 2 leaves", MEMBER, 0, 2, 0);
+    step(net, "station 2 hears the reply", DELIVER, 1, 2, 0);
+    step(net, "station 2 becomes a member", MEMBER, 0, 2, 1);
+    step(net, "station 2 asks", ASK, 0, 2, 0);
+    step(net, "station 1 hears the request", DELIVER, 2, 1, 0);
+    step(net, "station 2 hears the reply", DELIVER, 1, 2, 0);
+}
+
 /* ---- The working form */
 
 /* Where the entries stand in it: those of one station side by side, one for each group. */
@@ -256,14 +299,15 @@ static void print_station(const uint8_t *work, unsigned station)
         printf("  station %u in group %u: parent %d, clock %lu\n", station, group, entry[0], number_at(entry + ENTRY_CLOCK));
 }
 
-/* The root ticks, and station 1 hears of it. The root may not ask. */
-static const uint8_t heard[] = {ASK, 0, 1, 0, DELIVER, 1, 0, 0, DELIVER, 0, 1, 0};
+/* The root ticks, and both others hear of it, station 1 first. The root may not ask. */
+static const uint8_t heard[] = {ASK, 0, 1, 0, DELIVER, 1, 0, 0, DELIVER, 0, 1, 0, ASK, 0, 2, 0, DELIVER, 2, 1, 0};
 
 static void hear(step_function *take, run_function *run, uint8_t *net)
 {
     step_in(take, net, "the root of group 0 ticks", TICK, 0, 0, 0);
     step_in(take, net, "the root asks", ASK, 0, 0, 0);
     run_in(run, net, "a run", heard, sizeof heard);
+    step_in(take, net, "station 2 hears the reply", DELIVER, 1, 2, 0);
 }
 
 /* Neither form passes for the other, and a refusal changes nothing: net and work can be used as before. */
@@ -289,7 +333,7 @@ static void both_forms(uint8_t *net)
 
     tell("the net into the working form", kep_to_working(net, KEP_NET_BYTES, work, sizeof work));
     hear(kep_working_step, kep_working_run, work);
-    print_station(work, 1);
+    print_station(work, 2);
     exchange_forms(net, work);
     tell("the net into the saved form", kep_to_saved(work, sizeof work, saved, sizeof saved));
 
@@ -308,6 +352,7 @@ int main(void)
 
     step_by_step(net);
     call(net, 0, 2); /* too early: station 2 has no parent yet */
+    run_into_five_counts(net);
     run_in(kep_run, net, "a run", rest, sizeof rest);
 
     find(net, "AB"); /* a name is found whole or not at all */
@@ -315,6 +360,7 @@ int main(void)
     must("group A", found);
     call(net, (uint8_t)KEP_GROUP(found), 2);
 
+    leave_and_come_back(net);
     both_forms(net);
 
     return fflush(stdout) == 0 ? 0 : 1; /* a full disk is not a good end */

@@ -31,7 +31,7 @@ enum {
     KEP_PLAN_BYTES = 112,
     KEP_NET_BYTES = 15728, /* in either form */
     KEP_LIST_BYTES = 48,   /* 16 entries of station, parent, depth */
-    KEP_TALLY_BYTES = 20,  /* five counts of 4 bytes, big-endian */
+    KEP_TALLY_BYTES = 36,  /* nine counts of 4 bytes, big-endian */
     KEP_SCRIPT_BYTES_MOST = 16384,
     KEP_NIL = 255          /* no station */
 };
@@ -60,8 +60,20 @@ enum {
     KEP_SCRIPT_TOO_LONG = 12     /* the script is longer than 16,384 bytes */
 };
 
+/* The cases of a reply, tested in this order: the first that holds is told. In each of them the receiver stops waiting on the
+ * sender; only in the first does anything else of it change. */
+enum {
+    KEP_NO_REPLY = 0,      /* no reply was heard: the step delivered a request or nothing, or was refused */
+    KEP_ADOPTED = 1,       /* the sender is the receiver's tentative parent, the flag is 1, and the clock is greater than the
+                            * receiver's: the sender becomes parent, and the clock is taken */
+    KEP_NOT_TENTATIVE = 2, /* the sender is not the receiver's tentative parent */
+    KEP_UNCONNECTED = 3,   /* the flag is not 1 */
+    KEP_NOT_GREATER = 4    /* the clock is not greater than the receiver's */
+};
+
 /* The parts of a result. */
 #define KEP_OUTCOME(r) ((r) & 255u)
+#define KEP_CASE(r) ((r) >> 8 & 255u)    /* of kep_step and kep_working_step */
 #define KEP_GROUP(r) ((r) >> 8 & 255u)   /* of kep_find */
 #define KEP_REACHED(r) ((r) >> 8 & 255u) /* of kep_call */
 #define KEP_COPIES(r) ((r) >> 16 & 255u) /* of kep_call */
@@ -70,11 +82,13 @@ enum {
  * waiting and channels zero. What the buffer held before does not matter. Refusals: 10 (net_len), then 9 (the plan). */
 uint32_t kep_fresh(const uint8_t *plan, size_t plan_len, uint8_t *net, size_t net_len);
 
-/* One step of a net. Refusals: 1, 2, 3, 4, 5, 6. */
+/* One step of a net: outcome | case << 8, the case of the reply that it delivered, or 0. So the result of an accepted step need not
+ * be 0. Refusals: 1, 2, 3, 4, 5, 6. */
 uint32_t kep_step(uint8_t *net, size_t net_len, uint8_t action, uint8_t a, uint8_t b, uint8_t c);
 
 /* The steps of a script in turn, four bytes each; a step refused is counted and passed over. The tally is set anew: accepted,
- * refused, sent, delivered, lost. Refusals: 1, 10 (tally_len), 11, 12. */
+ * refused, sent, delivered, lost; then the replies delivered, by their cases: adopted, not tentative, unconnected, not greater.
+ * Refusals: 1, 10 (tally_len), 11, 12. */
 uint32_t kep_run(uint8_t *net, size_t net_len, const uint8_t *script, size_t script_len, uint8_t *tally, size_t tally_len);
 
 /* The group that has exactly these name bytes, all of them and no others: outcome | group << 8. Refusals: 1, 7. */
@@ -92,7 +106,7 @@ uint32_t kep_to_working(const uint8_t *net, size_t net_len, uint8_t *work, size_
  * matter. Refusals: 1 (work), then 10 (net_len). */
 uint32_t kep_to_saved(const uint8_t *work, size_t work_len, uint8_t *net, size_t net_len);
 
-/* One step of a net in the working form: the outcome is kep_step's of the same net, and so is the net, but for its form.
+/* One step of a net in the working form: outcome and case are kep_step's of the same net, and so is the net, but for its form.
  * Refusals: 1, 2, 3, 4, 5, 6. */
 uint32_t kep_working_step(uint8_t *work, size_t work_len, uint8_t action, uint8_t a, uint8_t b, uint8_t c);
 

@@ -90,10 +90,12 @@ static void put_chain(const uint8_t *order)
 
 typedef uint32_t step_function(uint8_t *net, size_t net_len, uint8_t action, uint8_t a, uint8_t b, uint8_t c);
 
-/* Each action, with operands that name a group, a station and its neighbour, or two neighbours. */
-static void measure_steps(int function, step_function *step, uint8_t *stepped, const uint8_t *order)
+/* Each action, with operands that name a group, a station and its neighbour, or two neighbours, either way round: so the last
+ * station asks the one before it, and hears its reply. 1 if it does. */
+static int measure_steps(int function, step_function *step, uint8_t *stepped, const uint8_t *order)
 {
     uint8_t action, last = order[STATIONS - 1], before = order[STATIONS - 2];
+    int heard = 0;
 
     for (action = 0; action <= ROUTE + 1; action++) {
         fill();
@@ -102,7 +104,11 @@ static void measure_steps(int function, step_function *step, uint8_t *stepped, c
         fill();
         step(stepped, KEP_NET_BYTES, action, last, before, 0);
         keep(function);
+        fill();
+        heard |= KEP_CASE(step(stepped, KEP_NET_BYTES, action, before, last, 0)) != KEP_NO_REPLY;
+        keep(function);
     }
+    return heard;
 }
 
 /* Runs the fresh net in both forms: 1 if it comes to the same. */
@@ -123,26 +129,26 @@ static int measure_runs(void)
     return memcmp(net, saved, sizeof net) == 0;
 }
 
-/* 1 if both forms come to the same, and the call reaches the whole chain. */
+/* 1 if both forms come to the same, the call reaches the whole chain, and a reply is heard. */
 static int measure(const uint8_t *order)
 {
     uint32_t result;
-    int same;
+    int well;
 
     put_chain(order);
     fill();
     kep_fresh(plan, sizeof plan, net, sizeof net);
     keep(FRESH);
-    same = measure_runs();
+    well = measure_runs();
     fill();
     kep_find(net, sizeof net, (const uint8_t *)"A", 1);
     keep(FIND);
     fill();
     result = kep_call(net, sizeof net, 0, order[STATIONS - 1], list, sizeof list);
     keep(CALL);
-    measure_steps(STEP, kep_step, net, order);
-    measure_steps(WORKING_STEP, kep_working_step, work, order);
-    return same && KEP_OUTCOME(result) == KEP_ACCEPTED && KEP_REACHED(result) == STATIONS;
+    well &= measure_steps(STEP, kep_step, net, order);
+    well &= measure_steps(WORKING_STEP, kep_working_step, work, order);
+    return well && KEP_OUTCOME(result) == KEP_ACCEPTED && KEP_REACHED(result) == STATIONS;
 }
 
 /* Exchanges two stations of the order, at random. */
