@@ -15,6 +15,7 @@ const LIST_ENTRIES: usize = 20;
 #[derive(Clone, Copy)]
 enum Kind {
     Plain,
+    Replies,
     NetLength(usize),
     NetDamaged,
     ScriptLength(usize),
@@ -23,10 +24,12 @@ enum Kind {
 }
 
 /// Few enough for an interpreter.
-const KINDS: [Kind; 10] = [
+const KINDS: [Kind; 12] = [
     Kind::Plain,
     Kind::Plain,
     Kind::Plain,
+    Kind::Replies,
+    Kind::Replies,
     Kind::NetLength(100),
     Kind::NetDamaged,
     Kind::ScriptLength(39),
@@ -61,14 +64,15 @@ fn main() -> ExitCode {
 }
 
 fn one(random: &mut Random, kind: Kind, cases: &mut Vec<u8>, lines: &mut String) {
-    let before = make::treed(random);
+    let before = if let Kind::Replies = kind { make::answered(random) } else { make::treed(random) };
     let group = random.below(before.plan.groups.len());
     let mut station = random.below(before.plan.stations);
-    let mut script = make::steps(random, &mut before.clone(), 40).concat();
+    let steps = if let Kind::Replies = kind { make::hearing_steps } else { make::steps };
+    let mut script = steps(random, &mut before.clone(), 40).concat();
     let mut net = encode(Form::Saved, &before);
     let mut entries = 16;
     match kind {
-        Kind::Plain => {}
+        Kind::Plain | Kind::Replies => {}
         Kind::NetLength(length) => net.truncate(length),
         Kind::NetDamaged => net[4] = 2,
         Kind::ScriptLength(length) => script.resize(length, 0),
@@ -81,7 +85,7 @@ fn one(random: &mut Random, kind: Kind, cases: &mut Vec<u8>, lines: &mut String)
     cases.extend(&net);
     cases.extend(&script);
 
-    let mut tally = [0, 0, 0, 9].repeat(5);
+    let mut tally = [0, 0, 0, 9].repeat(9);
     let outcome = face::run(&mut net, &script, &mut tally);
     let counts = tally.chunks_exact(4).map(|b| u32::from_be_bytes([b[0], b[1], b[2], b[3]]));
     put_line(lines, std::iter::once(outcome).chain(counts).chain([sum(&net)]));
