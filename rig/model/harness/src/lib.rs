@@ -1,5 +1,6 @@
 //! What holds the library and the bench program against the model (`rules`): random nets, plans and steps, damage,
-//! and the driver; and what to measure the library by: a faster test for well shaped, two actions and the conversion.
+//! slips, and the driver; and what to measure the library by: a faster test for well shaped, two actions and the
+//! conversion.
 
 pub mod breaches;
 pub mod damage;
@@ -7,4 +8,6 @@ pub mod fast;
 pub mod make;
 pub mod parts;
 pub mod random;
+pub mod replies;
 pub mod served;
+pub mod slips;

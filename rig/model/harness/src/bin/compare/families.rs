@@ -3,6 +3,7 @@
 use crate::forms::{both_forms, conversions, one_for_the_other};
 use crate::functions::{Compare, Family};
 use crate::outcomes::name_in;
+use crate::replies::{replies, reply, reply_rows, runs_of_replies};
 use harness::breaches::BREACHES;
 use harness::damage::{damage, damage_plan};
 use harness::make;
@@ -40,9 +41,16 @@ pub const FAMILIES: &[Family] = &[
     Family { name: "lengths of a net, working form", number: 21, cases: 1_000, one: |c| net_lengths(c, Working) },
     Family { name: "one form for the other", number: 22, cases: 5_000, one: one_for_the_other },
     Family { name: "both forms", number: 23, cases: 1_500, one: both_forms },
+    Family { name: "rows of replies", number: 24, cases: 1, one: reply_rows },
+    Family { name: "single replies", number: 25, cases: 6_000, one: |c| reply(c, Saved) },
+    Family { name: "replies", number: 26, cases: 500, one: |c| replies(c, Saved) },
+    Family { name: "runs of replies", number: 27, cases: 1_500, one: |c| runs_of_replies(c, Saved) },
+    Family { name: "single replies, working form", number: 28, cases: 4_000, one: |c| reply(c, Working) },
+    Family { name: "replies, working form", number: 29, cases: 300, one: |c| replies(c, Working) },
+    Family { name: "runs of replies, working form", number: 30, cases: 1_000, one: |c| runs_of_replies(c, Working) },
 ];
 
-fn line(stations: usize, names: &[&[u8]]) -> Plan {
+pub fn line(stations: usize, names: &[&[u8]]) -> Plan {
     let mut neighbours = vec![Stations::default(); stations];
     for p in 1..stations {
         neighbours[p].add(p - 1);
@@ -82,6 +90,9 @@ fn examples(c: &mut Compare) -> io::Result<()> {
         for script in [LISTING.concat(), vec![], vec![1, 0, 0], tick.repeat(4096), tick.repeat(4097)] {
             c.run(form, &bytes, &script, &[9; TALLY_BYTES])?;
         }
+        for size in OTHER_TALLY_SIZES {
+            c.run(form, &bytes, &LISTING.concat(), &vec![9; size])?;
+        }
         c.convert(form, &bytes, &[7; NET_BYTES])?;
         c.steps(form, &clock, &[tick, tick])?;
     }
@@ -98,6 +109,8 @@ fn examples(c: &mut Compare) -> io::Result<()> {
     Ok(())
 }
 
+/// A tally of 20 bytes has no counts of the replies by their cases.
+const OTHER_TALLY_SIZES: [usize; 7] = [0, 1, 20, 35, 37, 40, 72];
 const OTHER_PLAN_LENGTHS: [usize; 8] = [0, 1, 4, 111, 113, 224, 15_727, 15_728];
 pub const OTHER_NET_LENGTHS: [usize; 14] =
     [0, 1, 4, 8, 80, 111, 112, 113, 368, 1136, 15_727, 15_729, 20_000, 2 * NET_BYTES];
@@ -151,10 +164,11 @@ fn plan_sentences(c: &mut Compare) -> io::Result<()> {
 }
 
 pub fn some_net(random: &mut Random) -> Net {
-    match random.below(5) {
+    match random.below(6) {
         0 | 1 => make::grown(random),
         2 | 3 => make::shaped(random),
-        _ => make::treed(random),
+        4 => make::treed(random),
+        _ => make::answered(random),
     }
 }
 
@@ -232,7 +246,7 @@ fn runs(c: &mut Compare, form: Form) -> io::Result<()> {
         script.extend_from_within(..);
     }
     script.truncate(length);
-    let size = if c.random.chance(8) { c.random.pick(&[0, 1, 16, 19, 21, 40]) } else { TALLY_BYTES };
+    let size = if c.random.chance(8) { c.random.pick(&OTHER_TALLY_SIZES) } else { TALLY_BYTES };
     let tally = stale(&mut c.random, size);
     let mut bytes = encode(form, &net);
     if c.random.chance(8) {
@@ -277,7 +291,7 @@ pub fn any_function(c: &mut Compare, form: Form, plan: &Plan, bytes: &[u8]) -> i
             let net = decode(form, bytes).unwrap_or_else(|| fresh::fresh(plan.clone()));
             let mut script = make::steps(&mut c.random, &mut net.clone(), 6).concat();
             script.truncate(c.random.pick(&[24, 24, 24, 23, 0]));
-            let size = c.random.pick(&[TALLY_BYTES, TALLY_BYTES, TALLY_BYTES, 19]);
+            let size = c.random.pick(&[TALLY_BYTES, TALLY_BYTES, TALLY_BYTES, 20, 35]);
             c.run(form, bytes, &script, &vec![1; size])
         }
         2 => {

@@ -1,15 +1,17 @@
 //! The library, served by the driver, held against the model: each function, called as the families have it.
 
+use crate::cases::Cases;
 use crate::families::FAMILIES;
 use crate::outcomes::{conversion, name_in, Outcomes, HITS_WANTED};
 use crate::Score;
 use harness::breaches::BREACHES;
 use harness::parts::part_at;
 use harness::random::Random;
+use harness::replies::{hear, Heard};
 use harness::served::{lent_as, Answer, Driver, Lent};
 use rules::layout::{Form, NET_BYTES, TALLY_BYTES};
 use rules::net::Net;
-use rules::shape::encode;
+use rules::shape::{decode, encode};
 use rules::step::Step;
 use rules::{face, step};
 use std::collections::BTreeMap;
@@ -52,6 +54,7 @@ pub struct Compare {
     pub differences: u64,
     printed: usize,
     outcomes: Outcomes,
+    cases: Cases,
     /// How often each sentence of "well shaped" was broken in a net, in each form.
     pub broken: BTreeMap<String, u64>,
 }
@@ -68,6 +71,7 @@ impl Compare {
             differences: 0,
             printed: 0,
             outcomes: Outcomes::default(),
+            cases: Cases::default(),
             broken: sentences().map(|sentence| (sentence, 0)).collect(),
         })
     }
@@ -79,6 +83,9 @@ impl Compare {
             calls += self.calls;
         }
         score.count(self.outcomes.tell());
+        score.count(self.cases.tell());
+        score.count(self.cases.tell_kinds());
+        score.count(self.cases.tell_slips());
         score.count(self.sentences());
         score.count(self.ends_well());
         println!("compare: {calls} calls compared");
@@ -137,7 +144,8 @@ impl Compare {
             Form::Saved => face::step(&mut after, one),
             Form::Working => face::working_step(&mut after, one),
         };
-        self.outcomes.hit_step(form, one, result);
+        let heard = decode(form, net).map_or(Heard::Refusal, |mut net| hear(&mut net, one).1);
+        self.hit_step(form, one, heard, result);
         let words = || format!("{} {one:?} of a net of {} bytes", name_in(form, "step"), net.len());
         self.hold(None, words, theirs, Answer::of(vec![result], vec![(lent_as(form), after)]));
         Ok(())
@@ -148,8 +156,9 @@ impl Compare {
         let mut net = before.clone();
         let mut results = Vec::new();
         for &one in steps {
-            let result = step::step(&mut net, one).err().map_or(0, u32::from);
-            self.outcomes.hit_step(form, one, result);
+            let (answer, heard) = hear(&mut net, one);
+            let result = face::step_number(answer);
+            self.hit_step(form, one, heard, result);
             results.push(result);
         }
         self.calls += steps.len() as u64;
@@ -182,6 +191,9 @@ impl Compare {
             Form::Saved => face::run(&mut after, script, &mut counts),
             Form::Working => face::working_run(&mut after, script, &mut counts),
         };
+        if let (0, Some(net)) = (result, decode(form, net)) {
+            self.cases.hit_run(form, net, script);
+        }
         let name = name_in(form, "run");
         let words = || format!("{name} of {} bytes, net of {}, tally of {}", script.len(), net.len(), tally.len());
         let ours = Answer::of(vec![result], vec![(lent_as(form), after), ("tally", counts)]);
@@ -258,6 +270,11 @@ impl Compare {
     }
 
     // ---- counting and telling
+
+    fn hit_step(&mut self, form: Form, one: Step, heard: Heard, result: u32) {
+        self.outcomes.hit_step(form, one, result);
+        self.cases.hit_step(form, heard, result >> 8);
+    }
 
     /// Holds the library's answer to the model's. Steps are counted elsewhere: then the function has no name here.
     fn hold(&mut self, function: Option<&str>, words: impl Fn() -> String, theirs: Answer, ours: Answer) {

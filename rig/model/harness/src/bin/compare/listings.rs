@@ -50,10 +50,16 @@ const WANTED: &[&str] = &[
     "messages waiting",
     "messages lost",
     "steps refused",
+    "adopted",
+    "not-tentative",
+    "unconnected",
+    "not-greater",
+    "replies of every case",
     "sixteen stations",
     "four groups",
     "a name of sixteen bytes",
 ];
+const CASES: [&str; 4] = ["adopted", "not-tentative", "unconnected", "not-greater"];
 const HITS_WANTED: u64 = 20;
 const MOST_PRINTED: usize = 5;
 
@@ -131,18 +137,20 @@ fn tell(theirs: &io::Result<Vec<u8>>, ours: &str) {
 /// Counts what kinds of lines an answer of the model has.
 fn count_kinds(answer: &str, hits: &mut BTreeMap<&'static str, u64>) {
     let mut hit = |kind, holds| *hits.entry(kind).or_insert(0) += u64::from(holds);
-    let first: Vec<&str> = answer.lines().next().unwrap_or("").split(' ').collect();
-    hit("a listing", first[0] == "run");
+    let head: Vec<&str> = answer.lines().take(2).flat_map(|line| line.split(' ')).collect();
+    hit("a listing", head[0] == "run");
     for refusal in ["refused 9", "refused 11", "refused 12"] {
         hit(refusal, answer == format!("{refusal}\n"));
     }
-    let count = |word: &str| first.iter().position(|it| *it == word).map_or(false, |at| first[at + 1] != "0");
-    hit("steps refused", first[0] == "run" && count("refused"));
+    let count = |word: &str| head.iter().position(|it| *it == word).map_or(false, |at| head[at + 1] != "0");
+    hit("steps refused", head[0] == "run" && count("refused"));
     hit("messages lost", count("lost"));
     hit("messages waiting", count("waiting"));
+    CASES.into_iter().for_each(|case| hit(case, count(case)));
+    hit("replies of every case", CASES.into_iter().all(count));
     hit("four groups", answer.contains("\ngroup 3 "));
     hit("sixteen stations", answer.contains("\n15 parent "));
-    for line in answer.lines().skip(1) {
+    for line in answer.lines().skip(2) {
         let words: Vec<&str> = line.split(' ').collect();
         match words[..] {
             ["group", _, _, name, ..] => hit("a name of sixteen bytes", name.len() == 32),

@@ -2,11 +2,13 @@
 //! serves the library, and the program by these words. Each family of cases is one test; a seed always has the same
 //! cases. The last line is `N passed, M failed`.
 
+mod cases;
 mod families;
 mod forms;
 mod functions;
 mod listings;
 mod outcomes;
+mod replies;
 
 use std::process::ExitCode;
 

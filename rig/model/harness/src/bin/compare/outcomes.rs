@@ -68,7 +68,7 @@ impl Outcomes {
 
     pub fn hit_step(&mut self, form: Form, one: Step, result: u32) {
         self.hit(&name_in(form, "step"), result);
-        if let (1..=9, 0 | 2..) = (one[0], result) {
+        if let (1..=9, 0 | 2..) = (one[0], result & 255) {
             let action = format!("step {}", ACTIONS[usize::from(one[0]) - 1]);
             self.hit(&name_in(form, &action), result);
         }
