@@ -5,10 +5,9 @@ use mathlib.Core.Path.{_≡_, refl, ap}
 use mathlib.Core.Logic.{_≢_}
 use mathlib.Core.Bool.{Bool, true, false, cond}
 use mathlib.Core.List.{List}
-use Prim.Native.Nat.{ℕ, zero, suc, _+_, _*_, _≤_}
+use Prim.Native.Nat.{ℕ, zero, suc, _+_, _≤_}
 use native.Mathlib.Omega.{arith}
 use lib.Dec.{eqb}
-use lib.ListN.{getD}
 use borrow.Author.Tests.{eqb-true, eq-eqb}
 use Rattle.bits.specs.Sums.{bit}
 use Rattle.bits.proofs.Cases.{by-bool, by-lt}
@@ -16,11 +15,12 @@ use Rattle.tree.specs.Tree.{OnTree}
 use Rattle.tree.proofs.Chains.{chain-short}
 use Rattle.protocol.specs.declared.Entry.{Entry}
 use Rattle.protocol.specs.declared.Message.{Message}
+use Rattle.protocol.specs.declared.Tally.{Tally}
 use Rattle.protocol.specs.Net.{Net, request, reply, inChannels}
 use Rattle.protocol.specs.Fresh.{Plan, blank, fresh}
 use Rattle.protocol.specs.Entries.{isOf, countOf, underWay}
 use Rattle.protocol.specs.Steps.{rule, action?, outcome, step}
-use Rattle.protocol.specs.Runs.{countAccepted, countRefused, RunState, then, after}
+use Rattle.protocol.specs.Runs.{countAccepted, countRefused, RunState, then, atStep, after}
 use Rattle.protocol.specs.Calls.{treeOf}
 use Rattle.protocol.specs.Shaped.{All, none, both, ShapedPlan, ShapedMessage, Shaped}
 use Rattle.protocol.specs.Sound.{Sound, ShapedSound}
@@ -107,7 +107,7 @@ shaped-sound-demand3 N G = record {
 
 -- the same for every net that a script of any numbers goes through
 module _ (N : Net) (s : List ℕ) where
-  after-step : (i : ℕ) → after N s (suc i) .net ≡ step (after N s i .net) (getD s (4 * i) 0) (getD s (4 * i + 1) 0) (getD s (4 * i + 2) 0) (getD s (4 * i + 3) 0)
+  after-step : (i : ℕ) → after N s (suc i) .net ≡ atStep s i (step (after N s i .net))
   unfolding after then
   after-step i = refl
 
@@ -164,8 +164,9 @@ unfolding after then
 run-counts N s zero = refl
 run-counts N s (suc i) = at (eqb (outcome (after N s i .net) _ _ _ _) 0) (run-counts N s i)
   where
-    at : (b : Bool) → after N s i .tally .accepted + after N s i .tally .refused ≡ i
-        → cond b (countAccepted (after N s i .tally) (rule (after N s i .net) (getD s (4 * i) 0) (getD s (4 * i + 1) 0) (getD s (4 * i + 2) 0) (getD s (4 * i + 3) 0))) (countRefused (after N s i .tally)) .accepted
-        + cond b (countAccepted (after N s i .tally) (rule (after N s i .net) (getD s (4 * i) 0) (getD s (4 * i + 1) 0) (getD s (4 * i + 2) 0) (getD s (4 * i + 3) 0))) (countRefused (after N s i .tally)) .refused ≡ suc i
+    counted : Bool → Tally
+    counted b = cond b (countAccepted (after N s i .tally) (atStep s i (rule (after N s i .net)))) (countRefused (after N s i .tally))
+
+    at : (b : Bool) → after N s i .tally .accepted + after N s i .tally .refused ≡ i → counted b .accepted + counted b .refused ≡ suc i
     at true e = omega arith
     at false e = omega arith

@@ -2,12 +2,13 @@
 use mathlib.Core.Bool.{Bool, cond, not, _&&_, _||_}
 use mathlib.Core.List.{List, [], _∷_}
 use Prim.Native.Nat.{ℕ, _+_}
-use lib.Dec.{eqb, ltb}
+use lib.Dec.{eqb}
 use Rattle.bits.specs.Sums.{bit}
 use Rattle.bits.specs.Masks.{with, without}
 use Rattle.protocol.specs.declared.Entry.{Entry}
 use Rattle.protocol.specs.declared.Message.{Message}
 use Rattle.protocol.specs.Net.{nil, request, reply}
+use Rattle.protocol.specs.Cases.{adopts}
 
 -- ---- an entry with one field anew
 abbrev pub withParents : Entry → ℕ → ℕ → Entry
@@ -73,11 +74,7 @@ requestOf g = record { kind = request; group = g; connected = 0; clock = 0 }
 abbrev pub replyOf : ℕ → ℕ → ℕ → Entry → Message
 replyOf g r p e = record { kind = reply; group = g; connected = bit (connected r p e); clock = e .clock }
 
--- a reply from s is taken "if the sender is its tentative parent, the flag is 1 and the clock is strictly greater than its own"
-unfoldable pub adopts : Entry → ℕ → Message → Bool
-adopts e s m = eqb (e .tentative) s && eqb (m .connected) 1 && ltb (e .clock) (m .clock)
-
--- then "the sender becomes parent and the clock is taken"
+-- of a reply from s that is taken "the sender becomes parent and the clock is taken"
 abbrev pub adopting : Entry → ℕ → Message → Entry
 adopting e s m = withClock (withParents e s (e .tentative)) (m .clock)
 

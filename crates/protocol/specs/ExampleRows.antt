@@ -5,11 +5,12 @@ use Prim.Native.Nat.{ℕ, _-_, _*_}
 use lib.Dec.{eqb}
 use lib.ListN.{length, replicate}
 use Rattle.tree.specs.declared.Reach.{Reach}
+use Rattle.protocol.specs.declared.Case.the-variants.{Adopted, NotTentative, Unconnected, NotGreater}
 use Rattle.protocol.specs.declared.Entry.{Entry}
 use Rattle.protocol.specs.declared.Message.{Message}
 use Rattle.protocol.specs.Net.{inChannels}
-use Rattle.protocol.specs.Steps.{outcome}
-use Rattle.protocol.specs.Runs.{lengthOutcome, run}
+use Rattle.protocol.specs.Steps.{outcome, caseHeard}
+use Rattle.protocol.specs.Runs.{caseCount, lengthOutcome, run}
 use Rattle.protocol.specs.Names.{sameName as sameNumbers, find}
 use Rattle.protocol.specs.Calls.{called, reachList}
 use Rattle.protocol.specs.ExampleNets.{Step, scriptOf, Start, net, every, proper}
@@ -28,6 +29,18 @@ gives S t o = record { start = S; says = eqb (outcome (net S) (t .0) (t .1) (t .
 
 abbrev pub giveEach : Start → List Step → ℕ → Row
 giveEach S ts o = record { start = S; says = every (λ t. eqb (outcome (net S) (t .0) (t .1) (t .2) (t .3)) o) ts }
+
+-- the outcome is 0, and the reply that is heard is of case k: 0 where none is heard
+abbrev pub hears : Start → Step → ℕ → Row
+hears S t k =
+    let N = net S in
+    record { start = S; says = eqb (outcome N (t .0) (t .1) (t .2) (t .3)) 0 && eqb (caseHeard N (t .0) (t .1) (t .2) (t .3)) k }
+
+-- refused with o, and nothing is said of a reply
+abbrev pub hearsNothing : Start → Step → ℕ → Row
+hearsNothing S t o =
+    let N = net S in
+    record { start = S; says = eqb (outcome N (t .0) (t .1) (t .2) (t .3)) o && eqb (caseHeard N (t .0) (t .1) (t .2) (t .3)) 0 }
 
 -- ---- entries: "parent, tentative parent, member, .. clock (4), children mask (2), waiting mask (2)"
 abbrev pub entry : ℕ → ℕ → ℕ → ℕ → ℕ → ℕ → Entry
@@ -68,6 +81,15 @@ abbrev pub counts : Start → List Step → ℕ → ℕ → ℕ → ℕ → ℕ 
 counts S ts a r s d l =
     let t = run (net S) (scriptOf ts) .tally in
     record { start = S; says = sameNumbers (t .accepted ∷ t .refused ∷ t .sent ∷ t .delivered ∷ t .lost ∷ []) (a ∷ r ∷ s ∷ d ∷ l ∷ []) }
+
+-- the replies that it hears, by their case
+abbrev pub countsReplies : Start → List Step → ℕ → ℕ → ℕ → ℕ → Row
+countsReplies S ts a n u g =
+    let r = run (net S) (scriptOf ts) .tally .replies in
+    record {
+      start = S;
+      says = sameNumbers (caseCount r Adopted ∷ caseCount r NotTentative ∷ caseCount r Unconnected ∷ caseCount r NotGreater ∷ []) (a ∷ n ∷ u ∷ g ∷ []);
+    }
 
 -- after it group g is e to station p
 abbrev pub ends : Start → List Step → ℕ → ℕ → Entry → Row

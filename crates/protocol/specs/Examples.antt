@@ -11,7 +11,7 @@ use Rattle.protocol.specs.declared.Entry.{Entry}
 use Rattle.protocol.specs.declared.Message.{Message}
 use Rattle.protocol.specs.Net.{nil}
 use Rattle.protocol.specs.ExampleNets.{Step, Cable, Start, new, _knowing_, _carrying_, _having_, _by_}
-use Rattle.protocol.specs.ExampleRows.{Row, gives, giveEach, entry, knows, aRequest, aReply, holds, inAllChannels, leads, counts, ends}
+use Rattle.protocol.specs.ExampleRows.{Row, gives, giveEach, hears, hearsNothing, entry, knows, aRequest, aReply, holds, inAllChannels, leads, counts, countsReplies, ends}
 use Rattle.protocol.specs.ExampleRows.{scriptGives, finds, calls, reachEntry, hasReach}
 
 -- ---- the plans
@@ -159,6 +159,59 @@ ofDeliver =
     ∷ knows moves 0 1 (entry 0 0 1 9 0b100 0)
     ∷ knows moves 0 2 (entry nil nil 1 0 0b010 0)
     ∷ knows moves 0 0 (entry nil nil 0 0 0 0)
+    ∷ []
+
+-- ---- "which case holds: adopted, sender is not the tentative parent, sender unconnected, clock not greater, tested in that order"
+-- station 1 has clock 1; its tentative parent is 0, or 2, and a reply comes from 0
+abbrev ofTentative : ℕ → ℕ → ℕ → Start
+ofTentative t flag k = replied (entry nil t 1 1 0 0b101) flag k
+
+-- eight replies from 0, its tentative parent, and three messages from 2, which is not
+abbrev manyReplies : Start
+manyReplies =
+    middle (entry nil 0 1 1 0 0b101)
+    carrying (0, 1, aReply 0 1 2) carrying (0, 1, aReply 0 0 9) carrying (0, 1, aReply 0 1 3) carrying (0, 1, aReply 0 0 2)
+    carrying (0, 1, aReply 0 1 3) carrying (0, 1, aReply 0 1 4) carrying (0, 1, aReply 0 0 0) carrying (0, 1, aReply 0 1 5)
+    carrying (2, 1, aReply 0 1 9) carrying (2, 1, aRequest 0) carrying (2, 1, aReply 0 0 0)
+
+abbrev delivered : List Step
+delivered =
+    (4, 0, 1, 0) ∷ (4, 0, 1, 0) ∷ (4, 0, 1, 0) ∷ (4, 0, 1, 0) ∷ (4, 0, 1, 0) ∷ (4, 0, 1, 0) ∷ (4, 0, 1, 0) ∷ (4, 0, 1, 0)
+    ∷ (4, 2, 1, 0) ∷ (4, 2, 1, 0) ∷ (4, 2, 1, 0) ∷ []
+
+abbrev ofCases : List Row
+ofCases =
+    -- own clock 1: a reply of 1; of 2; of 2 with flag 0; of 2 from a station that is not the tentative parent
+    hears (ofTentative 0 1 1) (4, 0, 1, 0) 4 ∷ hears (ofTentative 0 1 2) (4, 0, 1, 0) 1
+    ∷ hears (ofTentative 0 0 2) (4, 0, 1, 0) 3 ∷ hears (ofTentative 2 1 2) (4, 0, 1, 0) 2
+    -- two wrong at once, and all three: the first in order is told
+    ∷ hears (ofTentative 2 0 2) (4, 0, 1, 0) 2 ∷ hears (ofTentative 2 1 1) (4, 0, 1, 0) 2
+    ∷ hears (ofTentative 0 0 1) (4, 0, 1, 0) 3 ∷ hears (ofTentative 2 0 1) (4, 0, 1, 0) 2
+    -- a clock that is lower; the largest clock, which nothing is greater than
+    ∷ hears (ofTentative 0 1 0) (4, 0, 1, 0) 4
+    ∷ hears (replied (entry nil 0 1 4294967295 0 0b001) 1 4294967295) (4, 0, 1, 0) 4
+    ∷ hears (replied (entry nil 0 1 4294967294 0 0b001) 1 4294967295) (4, 0, 1, 0) 1
+    -- no tentative parent; the parent, which is not the tentative one; where the station neither joins nor waits
+    ∷ hears (ofTentative nil 1 2) (4, 0, 1, 0) 2
+    ∷ hears (replied (entry 0 2 1 1 0 0b001) 1 2) (4, 0, 1, 0) 2
+    ∷ hears (replied (entry nil 0 0 1 0 0) 1 2) (4, 0, 1, 0) 1
+    -- the entry is that of the message's group
+    ∷ hears (hulls knowing (0, 1, entry nil 0 1 1 0 0b01) knowing (2, 1, entry nil 0 1 2 0 0b01) carrying (0, 1, aReply 2 1 2)) (4, 0, 1, 0) 4
+    -- a request, another action, a loss of a reply: none is heard; nor by a step that is refused
+    ∷ hears (requested (entry nil 2 1 0 0 0)) (4, 2, 1, 0) 0
+    ∷ hears (ofTentative 0 1 2) (1, 0, 0, 0) 0 ∷ hears (ofTentative 0 1 2) (5, 0, 1, 0) 0
+    ∷ hearsNothing (ofTentative 0 1 2) (4, 0, 1, 1) 3 ∷ hearsNothing (ofTentative 0 1 2) (4, 1, 0, 0) 4
+    ∷ hearsNothing (crowded 8 (requested (entry nil 2 1 0 0 0)) (1, 2, aRequest 0)) (4, 2, 1, 0) 6
+    -- a reply that is not taken changes nothing but the waiting, and is taken out
+    ∷ knows (ofTentative 2 1 2 by (4, 0, 1, 0)) 0 1 (entry nil 2 1 1 0 0b100)
+    ∷ knows (ofTentative 0 0 2 by (4, 0, 1, 0)) 0 1 (entry nil 0 1 1 0 0b100)
+    ∷ knows (ofTentative 0 1 1 by (4, 0, 1, 0)) 0 1 (entry nil 0 1 1 0 0b100)
+    ∷ holds (ofTentative 0 1 1 by (4, 0, 1, 0)) 0 1 []
+    -- "one count for each case": each by the clock that the replies before it have left; a request, and what is refused, in none
+    ∷ countsReplies manyReplies delivered 4 2 3 1
+    ∷ counts manyReplies delivered 11 0 1 11 0
+    ∷ countsReplies (ofTentative 0 1 2) ((4, 0, 1, 1) ∷ (4, 0, 1, 0) ∷ (4, 0, 1, 0) ∷ []) 1 0 0 0
+    ∷ countsReplies (ofTentative 0 1 2) ((5, 0, 1, 0) ∷ (4, 0, 1, 0) ∷ []) 0 0 0 0
     ∷ []
 
 -- ---- 5. "Lose (from, to, position 0 to 7). That message is removed; later ones, other groups' too, move up in their order, here and
@@ -333,6 +386,7 @@ listed = line having listingScript
 abbrev ofListing : List Row
 ofListing =
     counts line listingScript 13 0 6 6 0
+    ∷ countsReplies line listingScript 2 0 1 0
     ∷ inAllChannels listed 0
     ∷ knows listed 0 0 (entry nil nil 0 1 0b010 0)
     ∷ knows listed 0 1 (entry 0 0 0 1 0b100 0)
@@ -372,7 +426,7 @@ starred =
     ∷ finds hulls H2 7 0 ∷ finds hulls (H210 ++ (0x30 ∷ [])) 7 0 ∷ finds hulls (H21 ++ (0 ∷ [])) 7 0
     ∷ finds hulls [] 7 0 ∷ finds hulls (replicate 17 0x48) 7 0
     -- "Empty script: accepted, all counts zero. Three bytes: 11"
-    ∷ scriptGives pair 0 0 ∷ counts pair [] 0 0 0 0 0 ∷ scriptGives pair 3 11 ∷ scriptGives pair 4 0
+    ∷ scriptGives pair 0 0 ∷ counts pair [] 0 0 0 0 0 ∷ countsReplies pair [] 0 0 0 0 ∷ scriptGives pair 3 11 ∷ scriptGives pair 4 0
     -- "Ask at the root: 4. Station n: 3." This root joins and has a route
     ∷ gives (pair by (8, 0, 0, 1) by (9, 0, 1, 1)) (2, 0, 0, 0) 4 ∷ gives pair (2, 0, 2, 0) 3
     -- "A sole station calls: reached 1, copies 0"
@@ -385,5 +439,5 @@ starred =
 -- ---- the table
 unfoldable pub examples : List Row
 examples =
-    ofFresh ++ ofGroups ++ ofTick ++ ofAsk ++ ofRefresh ++ ofDeliver ++ ofLose ++ ofGiveUp ++ ofDropChild ++ ofMember ++ ofRoute
+    ofFresh ++ ofGroups ++ ofTick ++ ofAsk ++ ofRefresh ++ ofDeliver ++ ofCases ++ ofLose ++ ofGiveUp ++ ofDropChild ++ ofMember ++ ofRoute
     ++ ofOutcomes ++ ofRuns ++ ofCalls ++ ofListing ++ starred

@@ -1,6 +1,7 @@
 -- The book of rules. Read it beside document 01, in this order.
 pub mod Net
 pub mod Fresh
+pub mod Cases
 pub mod Entries
 pub mod Rules
 pub mod Steps

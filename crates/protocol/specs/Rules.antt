@@ -6,24 +6,27 @@ use lib.Dec.{eqb, ltb}
 use lib.ListN.{length, getD}
 use Rattle.bits.specs.Sums.{bit}
 use Rattle.bits.specs.Masks.{has}
+use Rattle.protocol.specs.declared.Case.{Case}
 use Rattle.protocol.specs.declared.Message.{Message}
 use Rattle.protocol.specs.Net.{NetOf, Net, nil, largestClock, capacity, roomIn, request, setEntry, setRoute, send, takeAt, group?, station?, near?}
+use Rattle.protocol.specs.Cases.{caseNumber, noCase, caseOf}
 use Rattle.protocol.specs.Entries.{joins, ticked, waitsOn, stopsWaiting, asking, withChild, withoutChild, stayOrLeave, withMember, requestOf, replyOf, hearing, underWay}
 
--- the messages that a step sends, delivers and loses
+-- the messages that a step sends, delivers and loses, and the number of the case of the reply that it hears, or that of no case
 pub record Traffic : Type 0 where
   pub sent : ℕ
   pub delivered : ℕ
   pub lost : ℕ
+  pub case : ℕ
 
 abbrev pub noTraffic : Traffic
-noTraffic = record { sent = 0; delivered = 0; lost = 0 }
+noTraffic = record { sent = 0; delivered = 0; lost = 0; case = noCase }
 
 abbrev pub oneSent : Traffic
-oneSent = record { sent = 1; delivered = 0; lost = 0 }
+oneSent = record { sent = 1; delivered = 0; lost = 0; case = noCase }
 
 abbrev pub oneLost : Traffic
-oneLost = record { sent = 0; delivered = 0; lost = 1 }
+oneLost = record { sent = 0; delivered = 0; lost = 1; case = noCase }
 
 -- an action on what T describes: its tests, in the order of the numbers that they give when they fail, its traffic, and what
 -- it leads to
@@ -105,7 +108,11 @@ answered N g s d =
 unfoldable pub heard : Net → ℕ → ℕ → Message → Net
 heard N s d m = setEntry N (m .group) d (hearing (N .entry (m .group) d) s m)
 
--- 4. "Deliver (from, to). Takes the oldest message."
+-- which case of a reply it is to the receiver
+unfoldable pub caseAt : Net → ℕ → ℕ → Message → Case
+caseAt N s d m = caseOf (N .entry (m .group) d) s m
+
+-- 4. "Deliver (from, to). Takes the oldest message." It "passes on" the case of a reply
 unfoldable pub deliver : Net → ℕ → ℕ → ℕ → Rule Net
 deliver N s d c =
     let m = oldest (N .channel) s d in
@@ -115,7 +122,7 @@ deliver N s d c =
       enabled = ltb 0 (length (N .channel s d));
       clockRoom = true;
       sendRoom = not asked || room? N d s;
-      traffic = record { sent = bit asked; delivered = 1; lost = 0 };
+      traffic = record { sent = bit asked; delivered = 1; lost = 0; case = cond asked noCase (caseNumber (caseAt N s d m)) };
       next = cond asked (answered (takeAt N s d 0) (m .group) s d) (heard (takeAt N s d 0) s d m);
     }
 

@@ -1,9 +1,10 @@
--- One step: its outcome, and the net that it leaves.
+-- One step: its outcome, the case of the reply that it hears, and the net that it leaves.
 use mathlib.Core.Bool.{Bool, true, false, cond, _&&_}
 use Prim.Native.Nat.{ℕ, _-_}
 use lib.Dec.{eqb, ltb, leb}
 use lib.ListN.{getD}
 use Rattle.protocol.specs.Net.{Net}
+use Rattle.protocol.specs.Cases.{noCase}
 use Rattle.protocol.specs.Rules.{noTraffic, Rule, rules}
 
 -- the number k where a test fails, and else the rest
@@ -41,3 +42,7 @@ outcome N k a b c = orElse (action? k) 2 (verdict (rule N k a b c))
 -- a refused step changes nothing
 unfoldable pub step : Net → ℕ → ℕ → ℕ → ℕ → Net
 step N k a b c = cond (eqb (outcome N k a b c) 0) (rule N k a b c .next) N
+
+-- which case the reply that is heard is, by its number: 0 where none is heard, and beside a refusal
+unfoldable pub caseHeard : Net → ℕ → ℕ → ℕ → ℕ → ℕ
+caseHeard N k a b c = cond (eqb (outcome N k a b c) 0) (rule N k a b c .traffic .case) noCase

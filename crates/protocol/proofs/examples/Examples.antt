@@ -11,10 +11,11 @@ use Rattle.tree.specs.Reach.{picked, visits, visit, reach}
 use Rattle.tree.specs.Flood.{passesTo, flood, spread}
 use Rattle.protocol.specs.Net.{upd, upd2, removeAt, setEntry, setChannel, setRoute, send, takeAt, group?, station?, near?, inChannels}
 use Rattle.protocol.specs.Fresh.{fresh}
-use Rattle.protocol.specs.Entries.{joins, connected, stayOrLeave, adopts, hearing, isOf, countOf, underWay}
-use Rattle.protocol.specs.Rules.{room?, tick, ask, refresh, answered, heard, deliver, lose, giveUp, dropChild, member, route, rules}
-use Rattle.protocol.specs.Steps.{verdict, rule, outcome, step}
-use Rattle.protocol.specs.Runs.{then, after, lengthOutcome, scriptOutcome, run}
+use Rattle.protocol.specs.Cases.{caseNumber, caseSays, caseOf, adopts}
+use Rattle.protocol.specs.Entries.{joins, connected, stayOrLeave, hearing, isOf, countOf, underWay}
+use Rattle.protocol.specs.Rules.{room?, tick, ask, refresh, answered, heard, caseAt, deliver, lose, giveUp, dropChild, member, route, rules}
+use Rattle.protocol.specs.Steps.{verdict, rule, outcome, step, caseHeard}
+use Rattle.protocol.specs.Runs.{caseCount, countCase, then, after, lengthOutcome, scriptOutcome, run}
 use Rattle.protocol.specs.Names.{sameName, firstFrom, find}
 use Rattle.protocol.specs.Calls.{treeOf, callOutcome, called, reachList}
 use Rattle.protocol.specs.Shaped.{All, Shaped}
@@ -31,9 +32,9 @@ unfolding right messageNumbers listNumbers examples crowded
     has with without below within over
     agreed climbs onTree picked visits visit reach passesTo flood spread
     upd upd2 removeAt setEntry setChannel setRoute send takeAt group? station? near? inChannels fresh
-    joins connected stayOrLeave adopts hearing isOf countOf underWay
-    room? tick ask refresh answered heard deliver lose giveUp dropChild member route rules
-    verdict rule outcome step then after lengthOutcome scriptOutcome run
+    caseNumber caseSays caseOf adopts joins connected stayOrLeave hearing isOf countOf underWay
+    room? tick ask refresh answered heard caseAt deliver lose giveUp dropChild member route rules
+    verdict rule outcome step caseHeard caseCount countCase then after lengthOutcome scriptOutcome run
     sameName firstFrom find treeOf callOutcome called reachList
 examples-right = refl
 

@@ -5,15 +5,16 @@ use mathlib.Core.Bool.{true, _||_}
 use Prim.Native.Nat.{ℕ, _≤_, _<_}
 use native.Mathlib.Omega.{arith}
 use lib.Dec.{eqb}
-use borrow.Author.Tests.{eqb-true}
 use Rattle.bits.specs.Masks.{has, with, without}
-use Rattle.bits.proofs.Cases.{by-bool, by-eq, and-l, and-r, clash}
+use Rattle.bits.proofs.Cases.{by-bool, by-eq, clash}
 use Rattle.bits.proofs.Masks.{with-miss, without-hit, without-miss}
 use Rattle.protocol.specs.declared.Entry.{Entry}
 use Rattle.protocol.specs.declared.Message.{Message}
 use Rattle.protocol.specs.Net.{nil, largestClock}
-use Rattle.protocol.specs.Entries.{withParents, withMember, withClock, joins, connected, waitsOn, stopsWaiting, asking, withChild, withoutChild, stayOrLeave, requestOf, replyOf, adopts, hearing}
+use Rattle.protocol.specs.Cases.{adopts, CaseHolds}
+use Rattle.protocol.specs.Entries.{withParents, withMember, withClock, joins, connected, waitsOn, stopsWaiting, asking, withChild, withoutChild, stayOrLeave, requestOf, replyOf, hearing}
 use Rattle.protocol.specs.Shaped.{ShapedEntry, ShapedMessage}
+use Rattle.protocol.proofs.laws.Cases.{adopts-holds}
 use Rattle.protocol.proofs.laws.Messages.{bit-le}
 
 pub shaped-request : (n g : ℕ) → g < n → ShapedMessage n (requestOf g)
@@ -66,14 +67,10 @@ module _ {nb r p : ℕ} {e : Entry} (K : ShapedEntry nb r p e) where
   shaped-stay = by-bool (eqb p r || joins e) (λ t. rw t K)
       (λ f. rw f (shaped-parents K nil nil (λ n. absurd (n refl)) (λ n. absurd (n refl)) (λ _. (refl, refl))))
 
-  adopts-sender : (s : ℕ) (m : Message) → adopts e s m ≡ true → e .tentative ≡ s
-  unfolding adopts
-  adopts-sender s m t = let t1 : eqb (e .tentative) s ≡ true = search (and-l, and-r) in eqb-true _ _ t1
-
 module _ {nb r p : ℕ} {e : Entry} (K : ShapedEntry nb r p e) where
   pub shaped-hearing : (s : ℕ) (m : Message) → has nb s ≡ true → s ≢ nil → m .clock ≤ largestClock → ShapedEntry nb r p (hearing e s m)
-  unfolding hearing
+  unfolding hearing CaseHolds
   shaped-hearing s m h n k = by-bool (adopts e s m)
       (λ t. rw t (shaped-clock (shaped-parents (shaped-stops K s) s (e .tentative) (λ _. h) (K .tentativeNear)
-      (λ i. absurd (n (sym (adopts-sender K s m t) ∙ K .nilAtRoot i .1)))) (m .clock) k))
+      (λ i. absurd (n (sym (adopts-holds e s m t .0) ∙ K .nilAtRoot i .1)))) (m .clock) k))
       (λ f. rw f (shaped-stops K s))

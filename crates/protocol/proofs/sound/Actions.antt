@@ -16,11 +16,13 @@ use Rattle.bits.proofs.Masks.{with-hit}
 use Rattle.protocol.specs.declared.Entry.{Entry}
 use Rattle.protocol.specs.declared.Message.{Message}
 use Rattle.protocol.specs.Net.{Net, nil, request, reply, upd, upd2, setEntry, setChannel, setRoute, removeAt, send, takeAt, station?, near?}
-use Rattle.protocol.specs.Entries.{joins, connected, withChild, requestOf, replyOf, adopts, hearing, isOf, countOf, underWay}
+use Rattle.protocol.specs.Cases.{adopts, CaseHolds}
+use Rattle.protocol.specs.Entries.{joins, connected, withChild, requestOf, replyOf, hearing, isOf, countOf, underWay}
 use Rattle.protocol.specs.Rules.{noMessage, oldest, tick, ask, refresh, answered, heard, deliver, lose, giveUp, dropChild, member, route, rules}
 use Rattle.protocol.specs.Steps.{step}
 use Rattle.protocol.specs.Shaped.{All, none, both, Shaped}
 use Rattle.protocol.proofs.laws.Maps.{upd-hit, upd-all, upd2-hit, upd2-row, upd2-off, All-at}
+use Rattle.protocol.proofs.laws.Cases.{adopts-holds}
 use Rattle.protocol.proofs.laws.Messages.{bit-le, bit-one, isOf-true, count-remove, taken, sent, taken-le}
 use Rattle.protocol.proofs.sound.Core.{Core}
 use Rattle.protocol.proofs.sound.Posts.{taking, sending-other, sending-request, sending-reply}
@@ -82,13 +84,10 @@ module _ {g r : ℕ} {E : ℕ → Entry} {C : ℕ → ℕ → List Message} (S :
 
     -- it is a reply: the receiver waits no longer, and takes the sender for its parent if the test says so
     heeded : oldest C s d .kind ≡ reply → s ≢ nil → Invariant g r (upd E d (hearing (E d) s (oldest C s d))) (taken C s d 0)
-    unfolding hearing adopts underWay
+    unfolding hearing CaseHolds underWay
     heeded k n = by-bool (adopts (E d) s (oldest C s d))
-        (λ t.
-        let t1 : eqb (E d .tentative) s ≡ true = search (and-l, and-r) in
-        let t2 : eqb (oldest C s d .connected) 1 ≡ true = search (and-l, and-r) in
-        let t3 : ltb (E d .clock) (oldest C s d .clock) ≡ true = search (and-l, and-r) in
-        rw t (adopting-kept gone d s (oldest C s d) (eqb-true _ _ t1) n (All-at 0 noMessage h (S .core .words s d) k mine (eqb-true _ _ t2)) (ltb-true _ _ t3) done))
+        (λ t. let (from, flag, clock) = adopts-holds (E d) s (oldest C s d) t in
+        rw t (adopting-kept gone d s (oldest C s d) from n (All-at 0 noMessage h (S .core .words s d) k mine flag) clock done))
         (λ f. rw f (stops-waiting-kept gone d s done))
       where
         done : underWay (taken C s d 0) g d s ≡ 0

@@ -63,7 +63,7 @@ module _ {E M : Type 0} (group : M → ℕ) (o : ℕ) where
 
 -- ---- the nine actions
 -- action k + 1 stands at place k
-less : (k : ℕ) → k ≡ suc k - 1
+pub less : (k : ℕ) → k ≡ suc k - 1
 less k = omega arith
 
 module _ (N : Net) (o : ℕ) where

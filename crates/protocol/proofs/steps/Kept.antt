@@ -10,7 +10,8 @@ use Rattle.bits.proofs.Cases.{by-bool, and-l, and-r, or-false-r, clash}
 use Rattle.protocol.specs.declared.Entry.{Entry}
 use Rattle.protocol.specs.declared.Message.{Message}
 use Rattle.protocol.specs.Net.{Net, nil, request, upd2, setEntry, setChannel, setRoute, send, takeAt, station?, near?}
-use Rattle.protocol.specs.Entries.{joins, stayOrLeave, adopts, hearing}
+use Rattle.protocol.specs.Cases.{adopts}
+use Rattle.protocol.specs.Entries.{joins, stayOrLeave, hearing}
 use Rattle.protocol.specs.Rules.{oldest, tick, ask, refresh, answered, heard, deliver, lose, giveUp, dropChild, member, route, rules}
 use Rattle.protocol.specs.Steps.{step}
 use Rattle.protocol.specs.Demands.{KeepsParents}
