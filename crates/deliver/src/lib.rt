@@ -3,12 +3,13 @@ use action::Answer;
 use action::answers::accepted;
 use action::answers::refused;
 use action::operands::of_cable;
+use protocol::Case;
 use protocol::Message;
 use protocol::REQUEST;
 ghost use mathlib.Core.Path.{_≡_};
 ghost use mathlib.Core.Bool.{true};
 ghost use Rattle.protocol.specs.Net.{Net, takeAt};
-ghost use Rattle.protocol.specs.Rules.{oldest, room?, answered, heard};
+ghost use Rattle.protocol.specs.Rules.{oldest, room?, answered, heard, caseAt};
 ghost use Rattle.protocol.specs.Rules as rule;
 ghost use Rattle.net.specs.View.{view};
 ghost use Rattle.net.specs.Encode.{bytesLike};
@@ -29,17 +30,20 @@ fn answer(net: &mut [u8], s: u8, d: u8, g: u8)
     action::post::post(net, g, d, e, s, entries::reply_of(g, root, d, e));
 }
 
-// A reply is heard: the receiver waits no longer, and may adopt the sender.
-fn hear(net: &mut [u8], s: u8, d: u8, m: Message)
+// A reply is heard: the receiver waits no longer, and may adopt the sender. Which case holds is the answer.
+fn hear(net: &mut [u8], s: u8, d: u8, m: Message) -> Case
     requires { ⌜ IsNet (now net) ⌝ }
     requires { ⌜ MayDeliver (view (now net)) s d ⌝ }
     requires { ⌜ m ≡ oldest (view (now net) .channel) s d ⌝ }
-    ensures { λ _. ⌜ now (net .exit) ≡ bytesLike (now (net .entry)) (heard (takeAt (view (now (net .entry))) s d 0) s d m) ⌝ }
+    ensures { λ r. ⌜ (r ≡ caseAt (view (now (net .entry))) s d m)
+        × (now (net .exit) ≡ bytesLike (now (net .entry)) (heard (takeAt (view (now (net .entry))) s d 0) s d m)) ⌝ }
 {
     let g = m.group;
-    let e = entries::hearing(access::read::entry_of(net, g, d), s, m);
+    let e = access::read::entry_of(net, g, d);
+    let case = entries::case_of(e, s, m);
     access::change::take_at(net, s, d, 0);
-    access::change::set_entry(net, g, d, e);
+    access::change::set_entry(net, g, d, entries::hearing(e, s, m, case));
+    case
 }
 
 pub fn deliver(net: &mut [u8], s: u8, d: u8, c: u8) -> Answer
@@ -60,6 +64,6 @@ pub fn deliver(net: &mut [u8], s: u8, d: u8, c: u8) -> Answer
         answer(net, s, d, m.group);
         return accepted(1, 1, 0);
     }
-    hear(net, s, d, m);
-    accepted(0, 1, 0)
+    let case = hear(net, s, d, m);
+    action::answers::heard(entries::case_number(case))
 }

@@ -1,4 +1,5 @@
 // What the actions ask of one entry or message, and what they make of it, by value.
+use protocol::Case;
 use protocol::Entry;
 use protocol::Message;
 use protocol::NIL;
@@ -11,6 +12,7 @@ ghost use lib.Dec.{eqb};
 ghost use Rattle.bits.specs.Masks as mask;
 ghost use Rattle.bits.specs.Sums.{bit};
 ghost use Rattle.protocol.specs.Net.{nil, mostStations, largestClock};
+ghost use Rattle.protocol.specs.Cases as reply;
 ghost use Rattle.protocol.specs.Entries as rule;
 
 fn joins(e: Entry) -> bool
@@ -139,11 +141,32 @@ pub fn reply_of(g: u8, root: u8, p: u8, e: Entry) -> Message
     }
 }
 
-// The test of a reply from s.
-fn adopts(e: Entry, s: u8, m: Message) -> bool
-    ensures { λ r. ⌜ r ≡ rule.adopts e s m ⌝ }
+// The test of a reply from s: which case holds.
+pub fn case_of(e: Entry, s: u8, m: Message) -> Case
+    ensures { λ r. ⌜ r ≡ reply.caseOf e s m ⌝ }
 {
-    (e.tentative == s) & (m.connected == 1) & (e.clock < m.clock)
+    if e.tentative != s {
+        return Case::NotTentative;
+    }
+    if m.connected != 1 {
+        return Case::Unconnected;
+    }
+    if e.clock >= m.clock {
+        return Case::NotGreater;
+    }
+    Case::Adopted
+}
+
+// The number of a case.
+pub fn case_number(c: Case) -> u8
+    ensures { λ r. ⌜ r ≡ reply.caseNumber c ⌝ }
+{
+    match c {
+        Case::Adopted => 1,
+        Case::NotTentative => 2,
+        Case::Unconnected => 3,
+        Case::NotGreater => 4,
+    }
 }
 
 fn adopting(mut e: Entry, s: u8, m: Message) -> Entry
@@ -154,15 +177,16 @@ fn adopting(mut e: Entry, s: u8, m: Message) -> Entry
     e
 }
 
-// A reply from s is heard: the station waits on s no longer, and adopts it if the test passes.
-pub fn hearing(e: Entry, s: u8, m: Message) -> Entry
-    requires { ⌜ s < mostStations ⌝ }
+// A reply from s is heard, and c is its case: the station waits on s no longer, and if c is adopted, s becomes its parent.
+pub fn hearing(e: Entry, s: u8, m: Message, c: Case) -> Entry
+    requires { ⌜ (s < mostStations) × (c ≡ reply.caseOf e s m) ⌝ }
     ensures { λ r. ⌜ r ≡ rule.hearing e s m ⌝ }
 {
     let f = stops_waiting(e, s);
-    if adopts(e, s, m) {
-        adopting(f, s, m)
-    } else {
-        f
+    match c {
+        Case::Adopted => adopting(f, s, m),
+        Case::NotTentative => f,
+        Case::Unconnected => f,
+        Case::NotGreater => f,
     }
 }

@@ -1,5 +1,6 @@
 -- No count of a run is more than its steps.
-use mathlib.Core.Path.{_≡_, refl}
+use mathlib.Core.Path.{_≡_, refl, subst}
+use mathlib.Core.Bool.{Bool}
 use mathlib.Core.List.{List}
 use Prim.Native.Nat.{ℕ, zero, suc, _≤_}
 use native.Mathlib.Omega.{arith}
@@ -9,11 +10,12 @@ use Rattle.protocol.specs.Net.{Net, request}
 use Rattle.protocol.specs.Rules.{Rule, noTraffic, oneSent, oneLost, oldest}
 use Rattle.protocol.specs.Rules.{tick, ask, refresh, deliver, lose, giveUp, dropChild, member, route, rules}
 use Rattle.protocol.specs.Steps.{rule, outcome}
-use Rattle.protocol.specs.Runs.{RunState, then, after}
+use Rattle.protocol.specs.Runs.{RunState, then, atStep, after, howMany, hears}
 use Rattle.protocol.specs.Shaped.{All, none, both}
 use Rattle.protocol.proofs.laws.Messages.{bit-le}
 use Rattle.protocol.proofs.steps.Steps.{each-rule}
-use Rattle.run.specs.inner.Counts.{CountsUpTo}
+use Rattle.protocol.proofs.Heard.{run-cases}
+use Rattle.run.specs.inner.Counts.{RepliesUpTo, CountsUpTo}
 
 -- a step sends, delivers and loses at most one message
 pub record AtMostOne (R : Rule Net) : Type 0 where
@@ -44,9 +46,15 @@ all-few N a b c =
 pub one-each : (N : Net) (k a b c : ℕ) → AtMostOne (rule N k a b c)
 one-each N k a b c = each-rule N AtMostOne (still _ refl) a b c (all-few N a b c) k
 
-then-few : (R : RunState) (i k a b c : ℕ) → CountsUpTo i (R .tally) → CountsUpTo (suc i) (then R k a b c .tally)
+-- a count of some of the steps
+some-steps : (so : Net → ℕ → ℕ → ℕ → ℕ → Bool) (N : Net) (s : List ℕ) (i : ℕ) → howMany so N s i ≤ i
+unfolding howMany
+some-steps so N s zero = omega arith
+some-steps so N s (suc i) = omega (arith, some-steps so N s i, bit-le (atStep s i (so (after N s i .net))))
+
+then-few : (R : RunState) (i k a b c : ℕ) → RepliesUpTo (suc i) (then R k a b c .tally .replies) → CountsUpTo i (R .tally) → CountsUpTo (suc i) (then R k a b c .tally)
 unfolding then
-then-few R i k a b c f =
+then-few R i k a b c heard f =
     let o = one-each (R .net) k a b c in
     by-bool (eqb (outcome (R .net) k a b c) 0)
     (λ t. rw t (record {
@@ -55,6 +63,7 @@ then-few R i k a b c f =
       sent = omega (arith, f .sent, o .sent);
       delivered = omega (arith, f .delivered, o .delivered);
       lost = omega (arith, f .lost, o .lost);
+      replies = subst (RepliesUpTo (suc i)) (rw t refl) heard;
     }))
     (λ t. rw t (record {
       accepted = omega (arith, f .accepted);
@@ -62,9 +71,13 @@ then-few R i k a b c f =
       sent = omega (arith, f .sent);
       delivered = omega (arith, f .delivered);
       lost = omega (arith, f .lost);
+      replies = subst (RepliesUpTo (suc i)) (rw t refl) heard;
     }))
+
+heard-few : (N : Net) (s : List ℕ) (i : ℕ) → RepliesUpTo i (after N s i .tally .replies)
+heard-few N s i x = rw (run-cases N s i x) (some-steps (hears x) N s i)
 
 pub few : (N : Net) (s : List ℕ) (i : ℕ) → CountsUpTo i (after N s i .tally)
 unfolding after
-few N s zero = omega arith
-few N s (suc i) = then-few (after N s i) i _ _ _ _ (few N s i)
+few N s zero = record { accepted = omega arith; refused = omega arith; sent = omega arith; delivered = omega arith; lost = omega arith; replies = heard-few N s 0 }
+few N s (suc i) = then-few (after N s i) i _ _ _ _ (heard-few N s (suc i)) (few N s i)

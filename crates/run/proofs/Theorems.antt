@@ -7,23 +7,27 @@
 --     tally-after      its tally is that of the steps, whatever it was before; bytes-after: and so in bytes
 --     run-conserves    "Messages waiting at the start plus sent equal delivered plus lost plus waiting at the end"
 --     run-counts       every step is counted, as accepted or as refused
+--     run-cases        each count of replies is the number of steps that hear a reply of its case
+--     run-replies      the four together are the replies delivered; run-delivered: and with the requests delivered all that is delivered
 --     run-shows        by value, accepted or not, the bytes of a net are left as those of the book's run; run-tells: and its tally
 use mathlib.Core.Path.{_≡_, refl, sym, ap, _∙_}
 use mathlib.Core.Logic.{_≢_}
 use mathlib.Core.Bool.{Bool, true}
 use mathlib.Core.List.{List}
-use Prim.Native.Nat.{ℕ, zero, suc, _+_, _*_, _/_}
+use Prim.Native.Nat.{ℕ, zero, suc, _+_, _/_}
 use native.Mathlib.Omega.{arith}
 use lib.Dec.{eqb}
-use lib.ListN.{length, getD}
+use lib.ListN.{length}
 use borrow.Author.Tests.{eq-eqb, ne-eqb}
 use Rattle.bits.proofs.Cases.{by-bool}
+use Rattle.protocol.specs.declared.Case.{Case}
 use Rattle.protocol.specs.declared.Tally.{Tally}
-use Rattle.protocol.specs.Net.{Net, inChannels}
+use Rattle.protocol.specs.Net.{Net, request, reply, inChannels}
 use Rattle.protocol.specs.Steps.{step}
-use Rattle.protocol.specs.Runs.{RunState, noTally, then, after, scriptOutcome, run}
+use Rattle.protocol.specs.Runs.{caseCount, RunState, noTally, then, atStep, after, scriptOutcome, run, howMany, delivers, hears, allReplies}
 use Rattle.protocol.proofs.steps.Steps.{orElse-pass}
 use Rattle.protocol.proofs.Theorems as book
+use Rattle.protocol.proofs.Heard as heard
 use Rattle.layout.specs.declared.form.Mark.{Mark}
 use Rattle.shape.specs.Shape.{shapedAs}
 use Rattle.net.specs.View.{view}
@@ -69,12 +73,9 @@ module _ (m : Mark) (l s : List ℕ) where
   each-turn h zero = view-bytes m l h
   each-turn h (suc i) =
       let w = at-stands h i in
-      let a = getD s (4 * i + 1) 0 in
-      let b = getD s (4 * i + 2) 0 in
-      let c = getD s (4 * i + 3) 0 in
-      ap (λ (M : Net). bytesAs m (step M (getD s (4 * i) 0) a b c)) (sym (w .1))
+      ap (λ (M : Net). bytesAs m (atStep s i (step M))) (sym (w .1))
       ∙ sym (after-bytes m (bytesAs m (at i .net)) _ _ _ _ (w .0))
-      ∙ ap (λ (x : List ℕ). netAfterStepAs m x (getD s (4 * i) 0) a b c) (each-turn h i)
+      ∙ ap (λ (x : List ℕ). atStep s i (netAfterStepAs m x)) (each-turn h i)
 
   pub refused-bytes : (t : List ℕ) → runOutcomeAs m l s (tallyFits t) ≢ 0 → tallyAfterRunAs m l s t ≡ t
   unfolding tallyAfterRunAs
@@ -120,6 +121,15 @@ module _ (m : Mark) (l s : List ℕ) where
 
         pub run-counts : runTallyAs m l s fits t .accepted + runTallyAs m l s fits t .refused ≡ steps
         run-counts = rw tally-after (book.run-counts (view l) s steps)
+
+        pub run-cases : (x : Case) → caseCount (runTallyAs m l s fits t .replies) x ≡ howMany (hears x) (view l) s steps
+        run-cases x = rw tally-after (heard.run-cases (view l) s steps x)
+
+        pub run-replies : allReplies (runTallyAs m l s fits t .replies) ≡ howMany (delivers reply) (view l) s steps
+        run-replies = rw tally-after (heard.run-replies (view l) s (seen m l (passed o .shape)) steps)
+
+        pub run-delivered : runTallyAs m l s fits t .delivered ≡ howMany (delivers request) (view l) s steps + allReplies (runTallyAs m l s fits t .replies)
+        run-delivered = rw tally-after (heard.run-delivered (view l) s (seen m l (passed o .shape)) steps)
 
   pub bytes-after : (t : List ℕ) → runOutcomeAs m l s (tallyFits t) ≡ 0 → tallyAfterRunAs m l s t ≡ tallyBytes (at steps .tally)
   unfolding tallyAfterRunAs

@@ -19,12 +19,12 @@ use Rattle.net.specs.Encode.{bytesAs}
 use Rattle.access.specs.inner.Nets.{IsNet}
 use Rattle.access.proofs.Laws.{is-net-of}
 use Rattle.action.specs.declared.Answer.{Answer}
-use Rattle.step.specs.inner.Ends.{stepAnswer, StepEnd}
+use Rattle.step.specs.inner.Ends.{answerIn, StepEnd}
 use Rattle.run.specs.inner.Counts.{counted}
 
 -- what a step did is counted as the book counts it
-counts-step : (R : RunState) (k a b c : ℕ) → counted (R .tally) (stepAnswer (R .net) k a b c) ≡ then R k a b c .tally
-unfolding counted stepAnswer then
+counts-step : (R : RunState) (k a b c : ℕ) → counted (R .tally) (answerIn (R .net) k a b c) ≡ then R k a b c .tally
+unfolding counted answerIn then
 counts-step R k a b c = by-bool (eqb (outcome (R .net) k a b c) 0) (λ t. rw t refl) (λ f. rw (f, f) refl)
 
 module _ (m : Mark) (N : Net) (H : Shaped N) (s : List ℕ) where
@@ -53,5 +53,5 @@ module _ (m : Mark) (N : Net) (H : Shaped N) (s : List ℕ) where
     pub turn-tally : (t t' : Tally) → t ≡ after N s i .tally → t' ≡ counted t d → t' ≡ after N s (i + 1) .tally
     unfolding after
     turn-tally t t' was is =
-        let did = w .answer ∙ ap (λ (M : Net). stepAnswer M (k i) (a i) (b i) (c i)) (after-is-net i l e .1) in
+        let did = w .answer ∙ ap (λ (M : Net). answerIn M (k i) (a i) (b i) (c i)) (after-is-net i l e .1) in
         rw add-one (is ∙ (λ j. counted (was j) (did j)) ∙ counts-step (after N s i) _ _ _ _)

@@ -2,12 +2,11 @@
 -- hands its tally back has none lent, and `fits` is true.
 use mathlib.Core.Bool.{Bool, cond}
 use mathlib.Core.List.{List}
-use Prim.Native.Nat.{ℕ, zero, suc, _+_, _*_}
+use Prim.Native.Nat.{ℕ, zero, suc}
 use lib.Dec.{eqb}
-use lib.ListN.{getD}
 use Rattle.protocol.specs.declared.Tally.{Tally}
 use Rattle.protocol.specs.Steps.{orElse}
-use Rattle.protocol.specs.Runs.{noTally, scriptOutcome, run}
+use Rattle.protocol.specs.Runs.{noTally, atStep, scriptOutcome, run}
 use Rattle.layout.specs.declared.form.Mark.{Mark}
 use Rattle.layout.specs.declared.form.Mark.the-variants.{Saved}
 use Rattle.shape.specs.Shape.{shapedAs}
@@ -45,7 +44,7 @@ module _ (m : Mark) (l s : List ℕ) where
 -- the bytes after the first i steps, taken one by one
 unfoldable pub inTurn : Mark → List ℕ → List ℕ → ℕ → List ℕ
 inTurn m l s zero = l
-inTurn m l s (suc i) = netAfterStepAs m (inTurn m l s i) (getD s (4 * i) 0) (getD s (4 * i + 1) 0) (getD s (4 * i + 2) 0) (getD s (4 * i + 3) 0)
+inTurn m l s (suc i) = atStep s i (netAfterStepAs m (inTurn m l s i))
 
 -- ---- the net of document 01 is the saved form
 abbrev pub runOutcome : List ℕ → List ℕ → Bool → ℕ

@@ -3,17 +3,18 @@ pub mod tally;
 
 use layout::form::Mark;
 use protocol::LONGEST_SCRIPT;
+use protocol::Replies;
 use protocol::Tally;
 ghost use mathlib.Core.Path.{_≡_};
 ghost use mathlib.Core.Bool.{true};
 ghost use Prim.Native.Nat.{_/_, _≤_};
 ghost use lib.ListN.{length};
-ghost use Rattle.protocol.specs.Runs.{noTally, lengthOutcome, after};
+ghost use Rattle.protocol.specs.Runs.{noTally, countCase, lengthOutcome, after};
 ghost use Rattle.protocol.specs.Net.{longestScript};
 ghost use Rattle.net.specs.View.{view};
 ghost use Rattle.net.specs.Encode.{bytesLike};
 ghost use Rattle.access.specs.inner.Nets.{IsNet};
-ghost use Rattle.run.specs.inner.Counts.{counted, CountsUpTo};
+ghost use Rattle.run.specs.inner.Counts.{counted, RepliesUpTo, CountsUpTo};
 ghost use Rattle.run.specs.Tallies.{tallyFits};
 ghost use Rattle.run.specs.Runs.{runOutcomeAs, netAfterRunAs, runAnswerAs, tallyAfterRunAs, runOutcome, netAfterRun, runAnswer, tallyAfterRun};
 
@@ -33,6 +34,38 @@ fn no_tally() -> Tally
         sent: 0,
         delivered: 0,
         lost: 0,
+        replies: Replies {
+            adopted: 0,
+            not_tentative: 0,
+            unconnected: 0,
+            not_greater: 0,
+        },
+    }
+}
+
+// One reply more, in the count of the case with this number.
+fn counted_case(mut r: Replies, case: u8) -> Replies
+    requires { ⌜ RepliesUpTo 4095 r ⌝ }
+    ensures { λ q. ⌜ q ≡ countCase r case ⌝ }
+{
+    match case {
+        1 => {
+            r.adopted = r.adopted + 1;
+            r
+        }
+        2 => {
+            r.not_tentative = r.not_tentative + 1;
+            r
+        }
+        3 => {
+            r.unconnected = r.unconnected + 1;
+            r
+        }
+        4 => {
+            r.not_greater = r.not_greater + 1;
+            r
+        }
+        0 | 5..=255 => r,
     }
 }
 
@@ -46,6 +79,7 @@ fn counted(mut t: Tally, d: action::Answer) -> Tally
         t.sent = t.sent + (d.sent as u32);
         t.delivered = t.delivered + (d.delivered as u32);
         t.lost = t.lost + (d.lost as u32);
+        t.replies = counted_case(t.replies, d.case);
     } else {
         t.refused = t.refused + 1;
     }

@@ -5,9 +5,9 @@ ghost use mathlib.Core.Path.{_≡_};
 ghost use lib.ListN.{length};
 ghost use Rattle.run.specs.Tallies.{tallyLength, tallyBytes};
 
-pub const TALLY_LENGTH: usize = 20;
+pub const TALLY_LENGTH: usize = 36;
 
-// The five counts, in document 01's order.
+// The nine counts, those of the replies last.
 pub fn put(out: &mut [u8], t: Tally)
     requires { ⌜ length (now out) ≡ tallyLength ⌝ }
     ensures { λ _. ⌜ now (out .exit) ≡ tallyBytes t ⌝ }
@@ -17,4 +17,8 @@ pub fn put(out: &mut [u8], t: Tally)
     put32(out, 8, t.sent);
     put32(out, 12, t.delivered);
     put32(out, 16, t.lost);
+    put32(out, 20, t.replies.adopted);
+    put32(out, 24, t.replies.not_tentative);
+    put32(out, 28, t.replies.unconnected);
+    put32(out, 32, t.replies.not_greater);
 }

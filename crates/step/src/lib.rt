@@ -1,13 +1,18 @@
 // One step of a net in bytes.
-use action::Answer;
 use layout::form::Mark;
 ghost use mathlib.Core.Path.{_≡_};
 ghost use Rattle.access.specs.inner.Nets.{IsNet};
 ghost use Rattle.step.specs.inner.Ends.{StepEnd};
-ghost use Rattle.step.specs.Steps.{stepOutcomeAs, netAfterStepAs, stepOutcome, netAfterStep};
+ghost use Rattle.step.specs.Steps.{stepAnswerAs, netAfterStepAs, stepAnswer, netAfterStep};
+
+// What a step answers: its outcome number, and the number of the case of the reply that it heard, 0 where it heard none.
+pub struct Answer {
+    pub outcome: u8,
+    pub case: u8,
+}
 
 // A step of bytes that are a net's, in the form that they are in: what a run repeats.
-pub fn step_in(net: &mut [u8], action: u8, a: u8, b: u8, c: u8) -> Answer
+pub fn step_in(net: &mut [u8], action: u8, a: u8, b: u8, c: u8) -> action::Answer
     requires { ⌜ IsNet (now net) ⌝ }
     ensures { λ r. ⌜ StepEnd (now (net .entry)) action a b c r (now (net .exit)) ⌝ }
 {
@@ -25,21 +30,28 @@ pub fn step_in(net: &mut [u8], action: u8, a: u8, b: u8, c: u8) -> Answer
     }
 }
 
-// A step of any bytes, which are to be a net in the form of this mark: its outcome number.
-pub fn step_as(net: &mut [u8], m: Mark, action: u8, a: u8, b: u8, c: u8) -> u8
-    ensures { λ r. ⌜ (r ≡ stepOutcomeAs m (now (net .entry)) action a b c)
+// A step of any bytes, which are to be a net in the form of this mark: its answer.
+pub fn step_as(net: &mut [u8], m: Mark, action: u8, a: u8, b: u8, c: u8) -> Answer
+    ensures { λ r. ⌜ (r ≡ stepAnswerAs m (now (net .entry)) action a b c)
         × (now (net .exit) ≡ netAfterStepAs m (now (net .entry)) action a b c) ⌝ }
 {
     if shape::whole::shaped_as(net, m) {
-        step_in(net, action, a, b, c).outcome
+        let done = step_in(net, action, a, b, c);
+        Answer {
+            outcome: done.outcome,
+            case: done.case,
+        }
     } else {
-        1
+        Answer {
+            outcome: 1,
+            case: 0,
+        }
     }
 }
 
 // In the saved form.
-pub fn step(net: &mut [u8], action: u8, a: u8, b: u8, c: u8) -> u8
-    ensures { λ r. ⌜ (r ≡ stepOutcome (now (net .entry)) action a b c) × (now (net .exit) ≡ netAfterStep (now (net .entry)) action a b c) ⌝ }
+pub fn step(net: &mut [u8], action: u8, a: u8, b: u8, c: u8) -> Answer
+    ensures { λ r. ⌜ (r ≡ stepAnswer (now (net .entry)) action a b c) × (now (net .exit) ≡ netAfterStep (now (net .entry)) action a b c) ⌝ }
 {
     step_as(net, Mark::Saved, action, a, b, c)
 }

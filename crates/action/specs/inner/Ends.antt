@@ -7,6 +7,7 @@ use Prim.Native.Nat.{ℕ, _<_}
 use lib.Dec.{eqb}
 use Rattle.protocol.specs.declared.Entry.{Entry}
 use Rattle.protocol.specs.Net.{Net, setEntry, send}
+use Rattle.protocol.specs.Cases.{noCase}
 use Rattle.protocol.specs.Entries.{requestOf}
 use Rattle.protocol.specs.Rules.{Traffic, Rule, oneSent, room?}
 use Rattle.protocol.specs.Steps.{verdict}
@@ -16,10 +17,14 @@ use Rattle.net.specs.Encode.{bytesLike}
 use Rattle.action.specs.declared.Answer.{Answer}
 
 abbrev pub refusedWith : ℕ → Answer
-refusedWith k = record { outcome = k; sent = 0; delivered = 0; lost = 0 }
+refusedWith k = record { outcome = k; sent = 0; delivered = 0; lost = 0; case = noCase }
 
 abbrev pub acceptedWith : Traffic → Answer
-acceptedWith t = record { outcome = 0; sent = t .sent; delivered = t .delivered; lost = t .lost }
+acceptedWith t = record { outcome = 0; sent = t .sent; delivered = t .delivered; lost = t .lost; case = t .case }
+
+-- where a reply is heard, of the case with this number
+abbrev pub heardWith : ℕ → Answer
+heardWith k = acceptedWith (record { sent = 0; delivered = 1; lost = 0; case = k })
 
 unfoldable pub actionAnswer : Rule Net → Answer
 actionAnswer R = cond (eqb (verdict R) 0) (acceptedWith (R .traffic)) (refusedWith (verdict R))

@@ -7,10 +7,12 @@ use borrow.Author.Tests.{not-true, not-false, lt-ltb}
 use Rattle.bits.proofs.Cases.{and-l}
 use Rattle.protocol.specs.declared.Message.{Message}
 use Rattle.protocol.specs.Net.{Net, takeAt, near?}
-use Rattle.protocol.specs.Rules.{Rule, oldest, room?, answered, heard}
+use Rattle.protocol.specs.Cases.{caseNumber}
+use Rattle.protocol.specs.Rules.{Rule, oldest, room?, answered, heard, caseAt}
 use Rattle.protocol.specs.Rules as rule
 use Rattle.net.specs.View.{view}
 use Rattle.net.specs.Encode.{bytesLike}
+use Rattle.action.specs.inner.Ends.{heardWith}
 use Rattle.action.proofs.Ends.{ends-3, ends-4, ends-6}
 use Rattle.deliver.specs.inner.MayDeliver.{MayDeliver}
 use Rattle.deliver.proofs.Delivers.{request-ends, reply-ends}
@@ -125,18 +127,25 @@ hear-requires c κs = let z = c .before .before .before in
     let y = z .before .before in
     (y .before .before .before .before .before .before .before .pre, (may-take y, z .oldest .ensures))
 
-accepted-requires-2 : tie.Need-accepted-requires-2
-accepted-requires-2 c κs = search needs
+case-number-requires : tie.Need-case-number-requires
+case-number-requires c κs = search needs
+
+heard-requires : tie.Need-heard-requires
+heard-requires c κs = search needs
 
 same-length-5 : tie.Need-same-length-5
 same-length-5 c = search needs
 
 returns-5 : tie.Need-returns-5
-returns-5 c = let z = c .before .before .before .before .before .before .before in
+returns-5 c = let hear = c .before .before .before .before in
+    let left = hear .before .before in
+    let z = left .before .before in
     let y = z .before .before in
     let s = y .before .before .before .before .before .before .before in
-    reply-ends (N s) _ (s .args .s) (s .args .d) (s .args .c) (operands (y .before .before .before)) (enabled y) (λ i. c .before .before .before .before .before .if3 .left (kind z ∙ i))
-    (c .accepted2 .ensures) (c .before .before .before .hear .ensures ∙ ap (λ (m : Message). bytesLike (s .args .net .now) (heard (takeAt (N s) (s .args .s) (s .args .d) 0) (s .args .s) (s .args .d) m)) (z .oldest .ensures))
+    let case = c .before .case-number .ensures ∙ ap caseNumber (hear .hear .ensures .0 ∙ ap (caseAt (N s) (s .args .s) (s .args .d)) (z .oldest .ensures)) in
+    reply-ends (N s) _ (s .args .s) (s .args .d) (s .args .c) (operands (y .before .before .before)) (enabled y) (λ i. left .if3 .left (kind z ∙ i))
+    (c .heard .ensures ∙ ap heardWith case)
+    (hear .hear .ensures .1 ∙ ap (λ (m : Message). bytesLike (s .args .net .now) (heard (takeAt (N s) (s .args .s) (s .args .d) 0) (s .args .s) (s .args .d) m)) (z .oldest .ensures))
 
 pub deliver-spec : {M : Type 1} → statement M
 deliver-spec =
@@ -160,6 +169,7 @@ deliver-spec =
     same-length-4
     returns-4
     hear-requires
-    accepted-requires-2
+    case-number-requires
+    heard-requires
     same-length-5
     returns-5)

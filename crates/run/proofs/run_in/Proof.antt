@@ -93,6 +93,7 @@ counted-requires c κs =
       sent = omega (arith, f .sent);
       delivered = omega (arith, f .delivered);
       lost = omega (arith, f .lost);
+      replies = λ x. omega (arith, f .replies x);
     }
 
 add-i : tie.Need-add-i Inv-loop μ-loop

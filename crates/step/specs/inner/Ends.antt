@@ -1,4 +1,4 @@
--- A step of bytes that are a net's: its outcome with the messages that it sent, delivered and lost, and the bytes that it leaves.
+-- A step of bytes that are a net's: what its action answers, and the bytes that it leaves.
 use mathlib.Core.Path.{_≡_}
 use mathlib.Core.Bool.{cond}
 use mathlib.Core.List.{List}
@@ -11,9 +11,9 @@ use Rattle.net.specs.Encode.{bytesLike}
 use Rattle.action.specs.declared.Answer.{Answer}
 use Rattle.action.specs.inner.Ends.{refusedWith, acceptedWith}
 
-unfoldable pub stepAnswer : Net → ℕ → ℕ → ℕ → ℕ → Answer
-stepAnswer N k a b c = let o = outcome N k a b c in cond (eqb o 0) (acceptedWith (rule N k a b c .traffic)) (refusedWith o)
+unfoldable pub answerIn : Net → ℕ → ℕ → ℕ → ℕ → Answer
+answerIn N k a b c = let o = outcome N k a b c in cond (eqb o 0) (acceptedWith (rule N k a b c .traffic)) (refusedWith o)
 
 pub record StepEnd (l : List ℕ) (k a b c : ℕ) (r : Answer) (l' : List ℕ) : Type 0 where
-  pub answer : r ≡ stepAnswer (view l) k a b c
+  pub answer : r ≡ answerIn (view l) k a b c
   pub bytes : l' ≡ bytesLike l (step (view l) k a b c)
