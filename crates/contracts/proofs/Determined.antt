@@ -15,7 +15,7 @@ use Rattle.layout.specs.declared.form.Mark.{Mark}
 use Rattle.layout.specs.declared.form.Mark.the-variants.{Saved, Working}
 use Rattle.shape.specs.Shape.{shapedAs, shaped}
 use Rattle.fresh.specs.Fresh.{freshOutcome, netAfterFresh}
-use Rattle.step.specs.Steps.{stepOutcomeAs, netAfterStepAs, stepOutcome, netAfterStep}
+use Rattle.step.specs.Steps.{stepAnswerAs, netAfterStepAs, stepAnswer, netAfterStep}
 use Rattle.run.specs.Tallies.{tallyFits}
 use Rattle.run.specs.Runs.{runOutcomeAs, netAfterRunAs, tallyAfterRunAs, runOutcome, netAfterRun, runTally, runAnswer, tallyAfterRun}
 use Rattle.convert.specs.Converts.{convertOutcome, afterConvert}
@@ -23,7 +23,7 @@ use Rattle.find.specs.Answers.{foundIn, answerOf}
 use Rattle.visit.specs.Lists.{listFits}
 use Rattle.call.specs.Answers.{CallEnd, calledIn, listAfterCall}
 use Rattle.lent.specs.Lists.{calledRecord, calledOn, recordsAfterCall}
-use Rattle.rig.specs.Face.{foundWord, calledWord}
+use Rattle.rig.specs.Face.{stepWord, foundWord, calledWord}
 use Rattle.listing.specs.Bench.{textRoom, storedText}
 use Rattle.contracts.specs.Ways.{Determines, Determines2, Determines3}
 
@@ -59,12 +59,12 @@ fresh-determined plan net = two
 
 -- step::step_as
 pub step-as-determined : (net : List ℕ) (m : Mark) (action a b c : ℕ)
-    → Determines2 (λ r net'. (r ≡ stepOutcomeAs m net action a b c) × (net' ≡ netAfterStepAs m net action a b c))
+    → Determines2 (λ r net'. (r ≡ stepAnswerAs m net action a b c) × (net' ≡ netAfterStepAs m net action a b c))
 step-as-determined net m action a b c = two
 
 -- step::step
 pub step-determined : (net : List ℕ) (action a b c : ℕ)
-    → Determines2 (λ r net'. (r ≡ stepOutcome net action a b c) × (net' ≡ netAfterStep net action a b c))
+    → Determines2 (λ r net'. (r ≡ stepAnswer net action a b c) × (net' ≡ netAfterStep net action a b c))
 step-determined net action a b c = two
 
 -- run::length_outcome
@@ -127,7 +127,7 @@ kep-fresh-determined plan net = two
 
 -- rig::kep_step
 pub kep-step-determined : (net : List ℕ) (action a b c : ℕ)
-    → Determines2 (λ r net'. (r ≡ stepOutcome net action a b c) × (net' ≡ netAfterStep net action a b c))
+    → Determines2 (λ r net'. (r ≡ stepWord (stepAnswer net action a b c)) × (net' ≡ netAfterStep net action a b c))
 kep-step-determined net action a b c = two
 
 -- rig::kep_run
@@ -158,7 +158,7 @@ kep-to-saved-determined work net = two
 
 -- rig::kep_working_step
 pub kep-working-step-determined : (work : List ℕ) (action a b c : ℕ)
-    → Determines2 (λ r work'. (r ≡ stepOutcomeAs Working work action a b c) × (work' ≡ netAfterStepAs Working work action a b c))
+    → Determines2 (λ r work'. (r ≡ stepWord (stepAnswerAs Working work action a b c)) × (work' ≡ netAfterStepAs Working work action a b c))
 kep-working-step-determined work action a b c = two
 
 -- rig::kep_working_run

@@ -16,10 +16,11 @@ use Rattle.layout.specs.declared.form.Mark.{Mark}
 use Rattle.shape.specs.Shape.{shaped}
 use Rattle.net.specs.View.{view}
 use Rattle.fresh.specs.Fresh.{freshOutcome, netAfterFresh}
-use Rattle.step.specs.Steps.{stepOutcomeAs, netAfterStepAs}
+use Rattle.step.specs.Steps.{stepOutcomeAs, stepCaseAs, netAfterStepAs}
 use Rattle.run.specs.Tallies.{tallyFits}
 use Rattle.run.specs.Runs.{runOutcomeAs, netAfterRunAs, runTallyAs, tallyAfterRunAs}
 use Rattle.step.proofs.After.{refused-after as refused-after-step}
+use Rattle.step.proofs.Hears.{refused-case}
 use Rattle.run.proofs.Theorems.{refused-after, refused-tally, refused-bytes}
 use Rattle.convert.specs.Converts.{convertOutcome, afterConvert}
 use Rattle.convert.proofs.Theorems.{refused-after as refused-after-convert}
@@ -58,6 +59,9 @@ unfolding recordsAfterCall
 lent-call-unchanged l g c xs n = rw (ne-eqb _ 0 n) refl
 
 -- "a refusal returns its number with zeros for every other result"
+pub step-zeros : (m : Mark) (l : List ℕ) (k a b c : ℕ) → stepOutcomeAs m l k a b c ≢ 0 → stepCaseAs m l k a b c ≡ 0
+step-zeros = refused-case
+
 pub find-zeros : (l w : List ℕ) → foundIn l w .outcome ≢ 0 → foundIn l w .group ≡ 0
 unfolding foundIn find
 find-zeros l w n =

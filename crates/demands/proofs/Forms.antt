@@ -3,7 +3,8 @@
 --     other-form               bytes that are a net in one form are none in another; other-refused: a step, a run and a conversion that take
 --                              that one give 1
 --     converted-corresponds    what a conversion leaves corresponds to what it read
---     same-step                of corresponding nets, a step of the same numbers has the same outcome, and leaves corresponding nets
+--     same-step                of corresponding nets, a step of the same numbers has the same answer, outcome and case, and leaves
+--                              corresponding nets
 --     same-run                 so does a run of the same script, with the same tally; same-bytes: and so in bytes
 use mathlib.Core.Path.{_≡_, refl, sym, ap, _∙_}
 use mathlib.Core.Logic.{_≢_}
@@ -16,7 +17,7 @@ use lib.ListN.{length}
 use Rattle.bits.proofs.Cases.{by-bool, by-eq}
 use Rattle.protocol.specs.declared.Tally.{Tally}
 use Rattle.protocol.specs.Net.{Net}
-use Rattle.protocol.specs.Steps.{outcome, step}
+use Rattle.protocol.specs.Steps.{outcome, step, caseHeard}
 use Rattle.protocol.specs.Runs.{after, run}
 use Rattle.protocol.proofs.Theorems.{run-shaped}
 use Rattle.layout.specs.declared.form.Mark.{Mark}
@@ -25,7 +26,7 @@ use Rattle.layout.specs.Marks.{markByte}
 use Rattle.shape.specs.Shape.{shapedAs}
 use Rattle.net.specs.View.{view}
 use Rattle.net.proofs.Forms.{seen, stands}
-use Rattle.step.specs.Steps.{stepOutcomeAs, netAfterStepAs}
+use Rattle.step.specs.Steps.{stepOutcomeAs, stepCaseAs, stepAnswerAs, netAfterStepAs}
 use Rattle.step.proofs.After.{after-net}
 use Rattle.run.specs.Tallies.{tallyFits, tallyBytes}
 use Rattle.run.specs.Runs.{runOutcomeAs, netAfterRunAs, runTallyAs, tallyAfterRunAs}
@@ -52,12 +53,12 @@ converted-corresponds m n l out o =
     record { here = convert.passed m n l out o .0; there = w .0; same = sym (w .1) }
 
 module _ (m n : Mark) (l w : List ℕ) (C : Corresponds m n l w) where
-  pub same-step : (k a b c : ℕ) → (stepOutcomeAs m l k a b c ≡ stepOutcomeAs n w k a b c) × Corresponds m n (netAfterStepAs m l k a b c) (netAfterStepAs n w k a b c)
-  unfolding stepOutcomeAs
+  pub same-step : (k a b c : ℕ) → (stepAnswerAs m l k a b c ≡ stepAnswerAs n w k a b c) × Corresponds m n (netAfterStepAs m l k a b c) (netAfterStepAs n w k a b c)
+  unfolding stepOutcomeAs stepCaseAs
   same-step k a b c =
       let x = after-net m l k a b c (C .here) in
       let y = after-net n w k a b c (C .there) in (
-        rw (C .here, C .there) (ap (λ (N : Net). outcome N k a b c) (C .same)),
+        rw (C .here, C .there) (λ i. record { outcome = outcome (C .same i) k a b c; case = caseHeard (C .same i) k a b c }),
         record { here = x .0; there = y .0; same = x .1 ∙ ap (λ (N : Net). step N k a b c) (C .same) ∙ sym (y .1) },
       )
 

@@ -22,7 +22,7 @@ use Rattle.shape.specs.Shape.{shaped}
 use Rattle.net.specs.View.{view}
 use Rattle.net.specs.Encode.{bytesOf}
 use Rattle.find.specs.Answers.{foundIn}
-use Rattle.step.specs.Steps.{stepOutcomeAs}
+use Rattle.step.specs.Steps.{stepOutcomeAs, stepCaseAs}
 use Rattle.step.proofs.After.{after-bytes}
 use Rattle.run.specs.Runs.{runOutcomeAs, netAfterRun, runTallyAs, tallyAfterRunAs}
 use Rattle.run.proofs.Theorems.{run-shows}
@@ -32,11 +32,11 @@ use Rattle.net.proofs.Forms.{view-bytes, stands}
 
 -- well-shaped bytes answer and leave what the rules say of the net that they show
 shaped-tell : (l : List ℕ) → shaped l ≡ true → Tells l (view l)
-unfolding stepOutcomeAs runOutcomeAs runTallyAs tallyAfterRunAs foundIn calledIn listAfterCall
+unfolding stepOutcomeAs stepCaseAs runOutcomeAs runTallyAs tallyAfterRunAs foundIn calledIn listAfterCall
 shaped-tell l s = record {
   shape = s;
   shows = refl;
-  outcome = λ k a b c. rw s refl;
+  answer = λ k a b c. rw s refl;
   step = λ k a b c. after-bytes Saved l k a b c s;
   script = λ t fits. rw s refl;
   run = λ t. let w = run-shows Saved l t s in sym (view-bytes Saved _ (w .0)) ∙ ap bytesOf (w .1);

@@ -23,12 +23,13 @@ use Rattle.tree.specs.Reach.{picked, visits, visit, reach}
 use Rattle.tree.specs.Flood.{passesTo, flood, spread}
 use Rattle.protocol.specs.Net.{upd, upd2, removeAt, setEntry, setChannel, setRoute, send, takeAt, group?, station?, near?}
 use Rattle.protocol.specs.Fresh.{Plan, planOf, fresh}
-use Rattle.protocol.specs.Entries.{joins, connected, stayOrLeave, adopts, hearing}
+use Rattle.protocol.specs.Cases.{caseNumber, caseSays, caseOf, adopts}
+use Rattle.protocol.specs.Entries.{joins, connected, stayOrLeave, hearing}
 use Rattle.protocol.specs.Names.{sameName}
 use Rattle.protocol.specs.Calls.{treeOf, Called, callOutcome, called, reachList}
-use Rattle.protocol.specs.Rules.{room?, tick, ask, answered, heard, deliver, member, route, rules}
+use Rattle.protocol.specs.Rules.{room?, tick, ask, answered, heard, caseAt, deliver, member, route, rules}
 use Rattle.protocol.specs.Steps.{verdict, rule, outcome, step}
-use Rattle.protocol.specs.Runs.{then, after, lengthOutcome, scriptOutcome, run}
+use Rattle.protocol.specs.Runs.{caseCount, countCase, then, after, lengthOutcome, scriptOutcome, run}
 use Rattle.protocol.specs.Shaped.{ShapedPlan}
 use Rattle.protocol.specs.ExampleNets.{scriptOf, neighboursBy, planBy, net, every, groupFits, differ, cableFits, planFits, entryFits, messageFits, proper}
 use Rattle.protocol.specs.Examples.{line, listingScript, listed}
@@ -47,7 +48,7 @@ use Rattle.net.specs.View.{view}
 use Rattle.net.specs.Encode.{entryBytes, bytesAs, bytesOf}
 use Rattle.fresh.specs.Fresh.{freshOutcome, netAfterFresh}
 use Rattle.run.specs.Runs.{runOutcome, netAfterRun, tallyAfterRun}
-use Rattle.run.specs.Tallies.{tallyLength, tallyBytes}
+use Rattle.run.specs.Tallies.{tallyLength, repliesBytes, tallyBytes}
 use Rattle.visit.specs.Lists.{listLength, listFits, reachBytes}
 use Rattle.call.specs.Answers.{calledIn, listAfterCall}
 use Rattle.convert.specs.Converts.{convertOutcome, afterConvert}
@@ -86,9 +87,10 @@ listing-computed : (proper listed ≡ true) × (scriptOutcome (scriptOf listingS
     × (tallyBytes (run (net line) (scriptOf listingScript) .tally) ≡ workedTally)
     × (called (net listed) 0 2 true ≡ record { outcome = 0; reached = 3; copies = 2 }) × (reachBytes (reachList (net listed) 0) ≡ workedList)
 unfolding proper planFits every groupFits differ cableFits net planBy fresh neighboursBy scriptOf has with without
-    upd upd2 removeAt setEntry setChannel setRoute send takeAt group? station? near? joins connected stayOrLeave adopts hearing
-    room? tick ask answered heard deliver member route rules verdict rule outcome step then after lengthOutcome scriptOutcome run
-    agreed climbs onTree picked visits visit reach passesTo flood spread treeOf callOutcome called reachList reachBytes tallyBytes bytes
+    upd upd2 removeAt setEntry setChannel setRoute send takeAt group? station? near? caseNumber caseSays caseOf adopts joins connected
+    stayOrLeave hearing room? tick ask answered heard caseAt deliver member route rules verdict rule outcome step caseCount countCase then after
+    lengthOutcome scriptOutcome run agreed climbs onTree picked visits visit reach passesTo flood spread treeOf callOutcome called reachList
+    reachBytes repliesBytes tallyBytes bytes
 listing-computed = (refl, refl, refl, refl, refl)
 
 module _ (buffer : List ℕ) (long : length buffer ≡ netLength) where

@@ -14,7 +14,7 @@ use Rattle.shape.specs.Shape.{shaped}
 use Rattle.net.specs.View.{view}
 use Rattle.net.specs.Encode.{bytesOf}
 use Rattle.find.specs.Answers.{foundIn}
-use Rattle.step.specs.Steps.{stepOutcome, netAfterStep}
+use Rattle.step.specs.Steps.{stepAnswer, netAfterStep}
 use Rattle.run.specs.Tallies.{tallyLength, tallyBytes}
 use Rattle.run.specs.Runs.{runOutcome, netAfterRun, runTally, tallyAfterRun}
 use Rattle.visit.specs.Lists.{listFits, reachBytes}
@@ -25,7 +25,7 @@ pub record Tells (l : List ℕ) (N : Net) : Type 0 where
   pub shape : shaped l ≡ true
   pub shows : view l ≡ N
   -- a step
-  pub outcome : (k a b c : ℕ) → stepOutcome l k a b c ≡ book.outcome N k a b c
+  pub answer : (k a b c : ℕ) → stepAnswer l k a b c ≡ record { outcome = book.outcome N k a b c; case = book.caseHeard N k a b c }
   pub step : (k a b c : ℕ) → netAfterStep l k a b c ≡ bytesOf (book.step N k a b c)
   -- a run, and the tally of an accepted one, as a record and in bytes
   pub script : (s : List ℕ) (fits : Bool) → runOutcome l s fits ≡ book.orElse fits 10 (book-runs.scriptOutcome s)

@@ -1,4 +1,5 @@
 // The lines of the listing. Each function answers the place after what it put.
+use protocol::Replies;
 use protocol::Tally;
 use text::put_byte;
 use text::put_filled;
@@ -12,7 +13,7 @@ ghost use Rattle.protocol.specs.Net.{Net, inChannels};
 ghost use Rattle.net.specs.View.{view};
 ghost use Rattle.access.specs.inner.Nets.{IsNet};
 ghost use Rattle.text.specs.inner.Within.{WroteWithin};
-ghost use Rattle.listing.specs.Lines.{runLine, stationLine, stationLines, groupLine, groupTexts, listing, refusedText};
+ghost use Rattle.listing.specs.Lines.{runLine, repliesLine, stationLine, stationLines, groupLine, groupTexts, listing, refusedText};
 
 // The tally, and how many messages are left in channels.
 fn run_line(out: &mut [u8], at: usize, t: Tally, left: u32) -> usize
@@ -24,6 +25,19 @@ fn run_line(out: &mut [u8], at: usize, t: Tally, left: u32) -> usize
         at,
         b"run accepted # refused # sent # delivered # lost # waiting #\n",
         &[t.accepted, t.refused, t.sent, t.delivered, t.lost, left],
+    )
+}
+
+// The counts of the replies, by case.
+fn replies_line(out: &mut [u8], at: usize, r: Replies) -> usize
+    requires { ⌜ at + 98 ≤ length (now out) ⌝ }
+    ensures { λ k. ⌜ WroteWithin 98 (now (out .entry)) (now (out .exit)) at k (repliesLine r) ⌝ }
+{
+    put_filled(
+        out,
+        at,
+        b"replies adopted # not-tentative # unconnected # not-greater #\n",
+        &[r.adopted, r.not_tentative, r.unconnected, r.not_greater],
     )
 }
 
@@ -92,10 +106,11 @@ fn group_texts(net: &[u8], out: &mut [u8], at: usize) -> usize
 // The listing of a net after a run that began with no message: those sent, and not delivered or lost, are left in channels.
 pub fn listing(net: &[u8], t: Tally, out: &mut [u8]) -> usize
     requires { ⌜ IsNet (now net) ⌝ }
-    requires { ⌜ (t .sent ≡ t .delivered + t .lost + inChannels (view (now net))) × (16463 ≤ length (now out)) ⌝ }
-    ensures { λ r. ⌜ WroteWithin 16463 (now (out .entry)) (now (out .exit)) 0 r (listing (view (now (net .entry))) t) ⌝ }
+    requires { ⌜ (t .sent ≡ t .delivered + t .lost + inChannels (view (now net))) × (16561 ≤ length (now out)) ⌝ }
+    ensures { λ r. ⌜ WroteWithin 16561 (now (out .entry)) (now (out .exit)) 0 r (listing (view (now (net .entry))) t) ⌝ }
 {
-    let next = run_line(out, 0, t, t.sent - t.delivered - t.lost);
+    let mut next = run_line(out, 0, t, t.sent - t.delivered - t.lost);
+    next = replies_line(out, next, t.replies);
     group_texts(net, out, next)
 }
 

@@ -2,6 +2,11 @@
 use Prim.Native.Nat.{ℕ, _+_, _*_}
 use Rattle.protocol.specs.Names.{Found}
 use Rattle.protocol.specs.Calls.{Called}
+use Rattle.step.specs.declared.Answer.{Answer}
+
+-- the outcome, and the number of the case of a reply in the next byte
+unfoldable pub stepWord : Answer → ℕ
+stepWord s = s .outcome + 256 * s .case
 
 -- the outcome, and the group in the next byte
 unfoldable pub foundWord : Found → ℕ

@@ -4,13 +4,13 @@ ghost use mathlib.Core.Path.{_≡_};
 ghost use Rattle.visit.specs.Lists.{listFits};
 ghost use Rattle.fresh.specs.Fresh.{freshOutcome, netAfterFresh};
 ghost use Rattle.layout.specs.declared.form.Mark.the-variants.{Saved, Working};
-ghost use Rattle.step.specs.Steps.{stepOutcome, netAfterStep, stepOutcomeAs, netAfterStepAs};
+ghost use Rattle.step.specs.Steps.{stepAnswer, netAfterStep, stepAnswerAs, netAfterStepAs};
 ghost use Rattle.run.specs.Tallies.{tallyFits};
 ghost use Rattle.run.specs.Runs.{runOutcome, netAfterRun, tallyAfterRun, runOutcomeAs, netAfterRunAs, tallyAfterRunAs};
 ghost use Rattle.convert.specs.Converts.{convertOutcome, afterConvert};
 ghost use Rattle.find.specs.Answers.{foundIn};
 ghost use Rattle.call.specs.Answers.{calledIn, listAfterCall};
-ghost use Rattle.rig.specs.Face.{foundWord, calledWord};
+ghost use Rattle.rig.specs.Face.{stepWord, foundWord, calledWord};
 
 #[no_mangle]
 pub extern "C" fn kep_fresh(plan: &[u8], net: &mut [u8]) -> u32
@@ -20,12 +20,19 @@ pub extern "C" fn kep_fresh(plan: &[u8], net: &mut [u8]) -> u32
     fresh::fresh(plan, net) as u32
 }
 
+// A step's answer as one number.
+fn step_word(answer: step::Answer) -> u32
+    ensures { λ r. ⌜ r ≡ stepWord answer ⌝ }
+{
+    (answer.outcome as u32) + 256 * (answer.case as u32)
+}
+
 #[no_mangle]
 pub extern "C" fn kep_step(net: &mut [u8], action: u8, a: u8, b: u8, c: u8) -> u32
-    ensures { λ r. ⌜ (r ≡ stepOutcome (now (net .entry)) action a b c)
+    ensures { λ r. ⌜ (r ≡ stepWord (stepAnswer (now (net .entry)) action a b c))
         × (now (net .exit) ≡ netAfterStep (now (net .entry)) action a b c) ⌝ }
 {
-    step::step(net, action, a, b, c) as u32
+    step_word(step::step(net, action, a, b, c))
 }
 
 #[no_mangle]
@@ -80,10 +87,10 @@ pub extern "C" fn kep_to_saved(work: &[u8], net: &mut [u8]) -> u32
 
 #[no_mangle]
 pub extern "C" fn kep_working_step(work: &mut [u8], action: u8, a: u8, b: u8, c: u8) -> u32
-    ensures { λ r. ⌜ (r ≡ stepOutcomeAs Working (now (work .entry)) action a b c)
+    ensures { λ r. ⌜ (r ≡ stepWord (stepAnswerAs Working (now (work .entry)) action a b c))
         × (now (work .exit) ≡ netAfterStepAs Working (now (work .entry)) action a b c) ⌝ }
 {
-    step::step_as(work, Mark::Working, action, a, b, c) as u32
+    step_word(step::step_as(work, Mark::Working, action, a, b, c))
 }
 
 #[no_mangle]
