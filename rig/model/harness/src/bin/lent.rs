@@ -24,11 +24,9 @@ enum Kind {
 }
 
 /// Few enough for an interpreter.
-const KINDS: [Kind; 12] = [
+const KINDS: [Kind; 10] = [
     Kind::Plain,
     Kind::Plain,
-    Kind::Plain,
-    Kind::Replies,
     Kind::Replies,
     Kind::NetLength(100),
     Kind::NetDamaged,
