@@ -5,5 +5,5 @@ pub mod steps
 pub mod Finds
 pub mod Calls
 pub mod Theorems
-pub mod Heard
+pub mod CaseCounts
 pub mod examples

@@ -1,6 +1,6 @@
 -- What the book proves: the theorems behind the printed sentences, each named for what it says. (Others stand beside what they
--- are about: `step-apart` and `route-apart` in Aparts, names in Finds, calls in Calls, the reach list and the flood in the crate
--- `tree`.)
+-- are about: `step-apart` and `route-apart` in Aparts, the case of a reply in Hears and its counts in CaseCounts, names in Finds, calls in
+-- Calls, the reach list and the flood in the crate `tree`.)
 use mathlib.Core.Path.{_≡_, refl, ap}
 use mathlib.Core.Logic.{_≢_}
 use mathlib.Core.Bool.{Bool, true, false, cond}

@@ -28,7 +28,7 @@ caseSays NotTentative e s m = not (eqb (e .tentative) s)
 caseSays Unconnected e s m = not (eqb (m .connected) 1)
 caseSays NotGreater e s m = not (ltb (e .clock) (m .clock))
 
--- "tested in that order": the first that says what is so. Where the first three do not, the fourth does (`one-holds`)
+-- "tested in that order": the first that says what is so. Where the first three do not, the fourth does (`told-says`)
 unfoldable pub caseOf : Entry → ℕ → Message → Case
 caseOf e s m =
     cond (caseSays Adopted e s m) Adopted

@@ -30,17 +30,11 @@ gives S t o = record { start = S; says = eqb (outcome (net S) (t .0) (t .1) (t .
 abbrev pub giveEach : Start → List Step → ℕ → Row
 giveEach S ts o = record { start = S; says = every (λ t. eqb (outcome (net S) (t .0) (t .1) (t .2) (t .3)) o) ts }
 
--- the outcome is 0, and the reply that is heard is of case k: 0 where none is heard
-abbrev pub hears : Start → Step → ℕ → Row
-hears S t k =
+-- it gives the outcome o, and the reply that is heard is of case k: 0 where none is heard
+abbrev pub tells : Start → Step → ℕ → ℕ → Row
+tells S t o k =
     let N = net S in
-    record { start = S; says = eqb (outcome N (t .0) (t .1) (t .2) (t .3)) 0 && eqb (caseHeard N (t .0) (t .1) (t .2) (t .3)) k }
-
--- refused with o, and nothing is said of a reply
-abbrev pub hearsNothing : Start → Step → ℕ → Row
-hearsNothing S t o =
-    let N = net S in
-    record { start = S; says = eqb (outcome N (t .0) (t .1) (t .2) (t .3)) o && eqb (caseHeard N (t .0) (t .1) (t .2) (t .3)) 0 }
+    record { start = S; says = eqb (outcome N (t .0) (t .1) (t .2) (t .3)) o && eqb (caseHeard N (t .0) (t .1) (t .2) (t .3)) k }
 
 -- ---- entries: "parent, tentative parent, member, .. clock (4), children mask (2), waiting mask (2)"
 abbrev pub entry : ℕ → ℕ → ℕ → ℕ → ℕ → ℕ → Entry

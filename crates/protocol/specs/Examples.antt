@@ -11,7 +11,7 @@ use Rattle.protocol.specs.declared.Entry.{Entry}
 use Rattle.protocol.specs.declared.Message.{Message}
 use Rattle.protocol.specs.Net.{nil}
 use Rattle.protocol.specs.ExampleNets.{Step, Cable, Start, new, _knowing_, _carrying_, _having_, _by_}
-use Rattle.protocol.specs.ExampleRows.{Row, gives, giveEach, hears, hearsNothing, entry, knows, aRequest, aReply, holds, inAllChannels, leads, counts, countsReplies, ends}
+use Rattle.protocol.specs.ExampleRows.{Row, gives, giveEach, tells, entry, knows, aRequest, aReply, holds, inAllChannels, leads, counts, countsReplies, ends}
 use Rattle.protocol.specs.ExampleRows.{scriptGives, finds, calls, reachEntry, hasReach}
 
 -- ---- the plans
@@ -182,26 +182,26 @@ delivered =
 abbrev ofCases : List Row
 ofCases =
     -- own clock 1: a reply of 1; of 2; of 2 with flag 0; of 2 from a station that is not the tentative parent
-    hears (ofTentative 0 1 1) (4, 0, 1, 0) 4 ∷ hears (ofTentative 0 1 2) (4, 0, 1, 0) 1
-    ∷ hears (ofTentative 0 0 2) (4, 0, 1, 0) 3 ∷ hears (ofTentative 2 1 2) (4, 0, 1, 0) 2
+    tells (ofTentative 0 1 1) (4, 0, 1, 0) 0 4 ∷ tells (ofTentative 0 1 2) (4, 0, 1, 0) 0 1
+    ∷ tells (ofTentative 0 0 2) (4, 0, 1, 0) 0 3 ∷ tells (ofTentative 2 1 2) (4, 0, 1, 0) 0 2
     -- two wrong at once, and all three: the first in order is told
-    ∷ hears (ofTentative 2 0 2) (4, 0, 1, 0) 2 ∷ hears (ofTentative 2 1 1) (4, 0, 1, 0) 2
-    ∷ hears (ofTentative 0 0 1) (4, 0, 1, 0) 3 ∷ hears (ofTentative 2 0 1) (4, 0, 1, 0) 2
+    ∷ tells (ofTentative 2 0 2) (4, 0, 1, 0) 0 2 ∷ tells (ofTentative 2 1 1) (4, 0, 1, 0) 0 2
+    ∷ tells (ofTentative 0 0 1) (4, 0, 1, 0) 0 3 ∷ tells (ofTentative 2 0 1) (4, 0, 1, 0) 0 2
     -- a clock that is lower; the largest clock, which nothing is greater than
-    ∷ hears (ofTentative 0 1 0) (4, 0, 1, 0) 4
-    ∷ hears (replied (entry nil 0 1 4294967295 0 0b001) 1 4294967295) (4, 0, 1, 0) 4
-    ∷ hears (replied (entry nil 0 1 4294967294 0 0b001) 1 4294967295) (4, 0, 1, 0) 1
+    ∷ tells (ofTentative 0 1 0) (4, 0, 1, 0) 0 4
+    ∷ tells (replied (entry nil 0 1 4294967295 0 0b001) 1 4294967295) (4, 0, 1, 0) 0 4
+    ∷ tells (replied (entry nil 0 1 4294967294 0 0b001) 1 4294967295) (4, 0, 1, 0) 0 1
     -- no tentative parent; the parent, which is not the tentative one; where the station neither joins nor waits
-    ∷ hears (ofTentative nil 1 2) (4, 0, 1, 0) 2
-    ∷ hears (replied (entry 0 2 1 1 0 0b001) 1 2) (4, 0, 1, 0) 2
-    ∷ hears (replied (entry nil 0 0 1 0 0) 1 2) (4, 0, 1, 0) 1
+    ∷ tells (ofTentative nil 1 2) (4, 0, 1, 0) 0 2
+    ∷ tells (replied (entry 0 2 1 1 0 0b001) 1 2) (4, 0, 1, 0) 0 2
+    ∷ tells (replied (entry nil 0 0 1 0 0) 1 2) (4, 0, 1, 0) 0 1
     -- the entry is that of the message's group
-    ∷ hears (hulls knowing (0, 1, entry nil 0 1 1 0 0b01) knowing (2, 1, entry nil 0 1 2 0 0b01) carrying (0, 1, aReply 2 1 2)) (4, 0, 1, 0) 4
+    ∷ tells (hulls knowing (0, 1, entry nil 0 1 1 0 0b01) knowing (2, 1, entry nil 0 1 2 0 0b01) carrying (0, 1, aReply 2 1 2)) (4, 0, 1, 0) 0 4
     -- a request, another action, a loss of a reply: none is heard; nor by a step that is refused
-    ∷ hears (requested (entry nil 2 1 0 0 0)) (4, 2, 1, 0) 0
-    ∷ hears (ofTentative 0 1 2) (1, 0, 0, 0) 0 ∷ hears (ofTentative 0 1 2) (5, 0, 1, 0) 0
-    ∷ hearsNothing (ofTentative 0 1 2) (4, 0, 1, 1) 3 ∷ hearsNothing (ofTentative 0 1 2) (4, 1, 0, 0) 4
-    ∷ hearsNothing (crowded 8 (requested (entry nil 2 1 0 0 0)) (1, 2, aRequest 0)) (4, 2, 1, 0) 6
+    ∷ tells (requested (entry nil 2 1 0 0 0)) (4, 2, 1, 0) 0 0
+    ∷ tells (ofTentative 0 1 2) (1, 0, 0, 0) 0 0 ∷ tells (ofTentative 0 1 2) (5, 0, 1, 0) 0 0
+    ∷ tells (ofTentative 0 1 2) (4, 0, 1, 1) 3 0 ∷ tells (ofTentative 0 1 2) (4, 1, 0, 0) 4 0
+    ∷ tells (crowded 8 (requested (entry nil 2 1 0 0 0)) (1, 2, aRequest 0)) (4, 2, 1, 0) 6 0
     -- a reply that is not taken changes nothing but the waiting, and is taken out
     ∷ knows (ofTentative 2 1 2 by (4, 0, 1, 0)) 0 1 (entry nil 2 1 1 0 0b100)
     ∷ knows (ofTentative 0 0 2 by (4, 0, 1, 0)) 0 1 (entry nil 0 1 1 0 0b100)

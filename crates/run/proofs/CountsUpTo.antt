@@ -14,7 +14,7 @@ use Rattle.protocol.specs.Runs.{RunState, then, atStep, after, howMany, hears}
 use Rattle.protocol.specs.Shaped.{All, none, both}
 use Rattle.protocol.proofs.laws.Messages.{bit-le}
 use Rattle.protocol.proofs.steps.Steps.{each-rule}
-use Rattle.protocol.proofs.Heard.{run-cases}
+use Rattle.protocol.proofs.CaseCounts.{run-cases}
 use Rattle.run.specs.inner.Counts.{RepliesUpTo, CountsUpTo}
 
 -- a step sends, delivers and loses at most one message

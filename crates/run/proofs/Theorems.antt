@@ -27,7 +27,7 @@ use Rattle.protocol.specs.Steps.{step}
 use Rattle.protocol.specs.Runs.{caseCount, RunState, noTally, then, atStep, after, scriptOutcome, run, howMany, delivers, hears, allReplies}
 use Rattle.protocol.proofs.steps.Steps.{orElse-pass}
 use Rattle.protocol.proofs.Theorems as book
-use Rattle.protocol.proofs.Heard as heard
+use Rattle.protocol.proofs.CaseCounts as counts
 use Rattle.layout.specs.declared.form.Mark.{Mark}
 use Rattle.shape.specs.Shape.{shapedAs}
 use Rattle.net.specs.View.{view}
@@ -123,13 +123,13 @@ module _ (m : Mark) (l s : List ℕ) where
         run-counts = rw tally-after (book.run-counts (view l) s steps)
 
         pub run-cases : (x : Case) → caseCount (runTallyAs m l s fits t .replies) x ≡ howMany (hears x) (view l) s steps
-        run-cases x = rw tally-after (heard.run-cases (view l) s steps x)
+        run-cases x = rw tally-after (counts.run-cases (view l) s steps x)
 
         pub run-replies : allReplies (runTallyAs m l s fits t .replies) ≡ howMany (delivers reply) (view l) s steps
-        run-replies = rw tally-after (heard.run-replies (view l) s (seen m l (passed o .shape)) steps)
+        run-replies = rw tally-after (counts.run-replies (view l) s (seen m l (passed o .shape)) steps)
 
         pub run-delivered : runTallyAs m l s fits t .delivered ≡ howMany (delivers request) (view l) s steps + allReplies (runTallyAs m l s fits t .replies)
-        run-delivered = rw tally-after (heard.run-delivered (view l) s (seen m l (passed o .shape)) steps)
+        run-delivered = rw tally-after (counts.run-delivered (view l) s (seen m l (passed o .shape)) steps)
 
   pub bytes-after : (t : List ℕ) → runOutcomeAs m l s (tallyFits t) ≡ 0 → tallyAfterRunAs m l s t ≡ tallyBytes (at steps .tally)
   unfolding tallyAfterRunAs
