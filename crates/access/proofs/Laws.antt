@@ -6,18 +6,20 @@ use Prim.Native.Nat.{ℕ, _+_, _-_, _≤_, _<_}
 use native.Mathlib.Nat.{add-zero, add-sub-cancel-left}
 use native.Mathlib.Omega.{arith}
 use lib.ListN.{length}
+use Rattle.bits.specs.Numbers.{bytes}
 use Rattle.bits.specs.Parts.{part, splice}
 use Rattle.bits.proofs.Parts.{lent, back, length-part, getD-part, part-lent, part-part, put-whole, lent-back}
 use Rattle.protocol.specs.declared.Entry.{Entry}
 use Rattle.protocol.specs.declared.Message.{Message}
 use Rattle.protocol.specs.Net.{Net, capacity, longestName, setEntry, setChannel, setRoute}
+use Rattle.protocol.specs.Entries.{withParents, withClock}
 use Rattle.protocol.specs.Shaped.{Shaped}
 use Rattle.channel.specs.Messages.{messagesOf, channelBytes}
 use Rattle.channel.specs.inner.Channels.{IsChannel}
 use Rattle.channel.proofs.Messages.{length-channel}
 use Rattle.layout.specs.Layout.{byte, stations, groups, groupAt, nameLength, routeAt, entrySize, channelAt}
 use Rattle.layout.specs.declared.form.Mark.{Mark}
-use Rattle.layout.specs.Marks.{markOf, stretchAt, inStretch}
+use Rattle.layout.specs.Marks.{markOf, stretchAt, inStretch, entryAt}
 use Rattle.plan.specs.Planned.{netHeader}
 use Rattle.plan.proofs.Plans.{name-at}
 use Rattle.shape.specs.Shape.{shapedAs}
@@ -25,10 +27,10 @@ use Rattle.shape.proofs.Nets.{long, plan-pass, marked}
 use Rattle.net.specs.View.{view}
 use Rattle.net.specs.Encode.{entryBytes, bytesAs, bytesLike}
 use Rattle.net.proofs.Records.{length-entryBytes}
-use Rattle.access.specs.inner.Nets.{IsNet}
+use Rattle.access.specs.inner.Nets.{IsNet, EntryMade}
 use Rattle.forms.specs.Plans.{nameOf, planIn}
 use Rattle.forms.proofs.plan.Shown.{plan-name}
-use Rattle.net.proofs.Forms.{view-channel, seen, channel-is, view-bytes, bytes-entry, bytes-channel, bytes-route, stands}
+use Rattle.net.proofs.Forms.{view-channel, seen, channel-is, view-bytes, bytes-entry, bytes-field, bytes-parent, bytes-channel, bytes-route, stands}
 
 pub is-net : (m : Mark) (l : List ℕ) → shapedAs m l ≡ true → IsNet l
 unfolding view planIn
@@ -51,6 +53,17 @@ is-net-of m N l H e = let w = stands m N l H e in (is-net m l (w .0), w .1, mark
 pub is-net-after : (l : List ℕ) (N : Net) (l' : List ℕ) → Shaped N → l' ≡ bytesLike l N
     → (IsNet l') × (view l' ≡ N) × ((M : Net) → bytesLike l' M ≡ bytesLike l M)
 is-net-after l N l' H e = let w = is-net-of (markOf l) N l' H e in (w .0, w .1, λ M. ap (λ (m : Mark). bytesAs m M) (w .2))
+
+-- after a change of l, an entry made into another
+pub made-after : (l : List ℕ) (N : Net) (l' l″ : List ℕ) → Shaped N → l' ≡ bytesLike l N → (g p : ℕ) (f : Entry → Entry) → EntryMade l' l″ g p f
+    → l″ ≡ bytesLike l (setEntry N g p (f (N .entry g p)))
+made-after l N l' l″ H e g p f made =
+    let w = is-net-after l N l' H e in
+    made ∙ ap (λ (M : Net). bytesLike l' (setEntry M g p (f (M .entry g p)))) (w .1) ∙ w .2 _
+
+-- w bytes that were lent on, `&mut l[a..a + w]`, come back with these in them
+pub put-back : (w a : ℕ) (l vs : List ℕ) → length vs ≡ w → back a (a + w - a) l (splice (lent a (a + w - a) l) 0 vs) ≡ splice l a vs
+put-back w a l vs e = lent-back a (a + w - a) l 0 vs (omega arith) ∙ ap (λ (i : ℕ). splice l i vs) (add-zero a)
 
 module _ (l : List ℕ) (r : IsNet l) where
   here : bytesLike l (view l) ≡ l
@@ -103,6 +116,19 @@ module _ (l : List ℕ) (r : IsNet l) where
       lent-back a (a + n - a) l at (entryBytes e) (omega (arith, length-entryBytes e))
       ∙ (λ j. splice (sym here j) (i j + k j) (entryBytes e))
       ∙ sym (bytes-entry (markOf l) (view l) (r .stationsMost) (r .groupsMost) g p e hg hp)
+
+  -- a field of it put where it stands
+  pub field-back : (g p o : ℕ) (vs : List ℕ) (e : Entry) → splice (entryBytes (view l .entry g p)) o vs ≡ entryBytes e → o + length vs ≤ entrySize
+      → g < view l .groups → p < view l .stations → splice l (entryAt (markOf l) g p + o) vs ≡ bytesLike l (setEntry (view l) g p e)
+  field-back g p o vs e put fits hg hp =
+      (λ j. splice (sym here j) (entryAt (markOf l) g p + o) vs)
+      ∙ bytes-field (markOf l) (view l) (r .stationsMost) (r .groupsMost) g p o vs e put fits hg hp
+
+  pub parent-back : (g p q k : ℕ) → g < view l .groups → p < view l .stations → let at = entryAt (markOf l) g p in
+      splice (splice l (at + 0) (q ∷ [])) (at + 4) (bytes 4 k) ≡ bytesLike l (setEntry (view l) g p (withClock (withParents (view l .entry g p) q (view l .entry g p .tentative)) k))
+  parent-back g p q k hg hp =
+      let at = entryAt (markOf l) g p in
+      (λ j. splice (splice (sym here j) (at + 0) (q ∷ [])) (at + 4) (bytes 4 k)) ∙ bytes-parent (markOf l) (view l) (r .stationsMost) (r .groupsMost) g p q k hg hp
 
   pub route-back : (p d at q : ℕ) → at ≡ routeAt p d → p < view l .stations → d < view l .stations → splice l at (q ∷ []) ≡ bytesLike l (setRoute (view l) p d q)
   route-back p d at q i hp hd = (λ j. splice (sym here j) (i j) (q ∷ [])) ∙ sym (bytes-route (markOf l) (view l) (r .stationsMost) (r .groupsMost) p d q hp hd)

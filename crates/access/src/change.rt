@@ -1,4 +1,5 @@
 // One thing of a net changed in its bytes.
+use crate::read::entry_place;
 use bits::number::put16;
 use bits::number::put32;
 use bits::number::wide;
@@ -14,12 +15,15 @@ use protocol::Message;
 ghost use mathlib.Core.Path.{_≡_};
 ghost use Prim.Native.Nat.{_+_, _≤_, _<_};
 ghost use lib.ListN.{length};
+ghost use Rattle.bits.specs.Numbers.{bytes};
 ghost use Rattle.bits.specs.Parts.{splice};
 ghost use Rattle.protocol.specs.Net.{Net, capacity, setEntry, setRoute, send, takeAt};
+ghost use Rattle.protocol.specs.Entries.{withParents, withClock, withChildren, withWaiting};
 ghost use Rattle.layout.specs.Layout.{entrySize};
+ghost use Rattle.layout.specs.Marks.{markOf, entryAt};
 ghost use Rattle.net.specs.View.{view};
 ghost use Rattle.net.specs.Encode.{entryBytes, bytesLike};
-ghost use Rattle.access.specs.inner.Nets.{IsNet};
+ghost use Rattle.access.specs.inner.Nets.{IsNet, EntryMade};
 
 // An entry, written to the stretch of entries of one group.
 pub fn write_entry(stretch: &mut [u8], at: usize, e: Entry)
@@ -44,6 +48,46 @@ pub fn set_entry(net: &mut [u8], g: u8, p: u8, e: Entry)
     let m = mark_of(net);
     let a = stretch_at(m, wide(g));
     write_entry(&mut net[a..a + stretch_size(m)], in_stretch(m, wide(p)), e);
+}
+
+// One of the two masks of an entry, o bytes into it: its two bytes alone are lent on.
+fn set_mask(net: &mut [u8], g: u8, p: u8, o: usize, mask: u16)
+    requires { ⌜ IsNet (now net) ⌝ }
+    requires { ⌜ (g < view (now net) .groups) × (p < view (now net) .stations) × (o + 2 ≤ entrySize) ⌝ }
+    ensures { λ _. ⌜ now (net .exit) ≡ splice (now (net .entry)) (entryAt (markOf (now (net .entry))) g p + o) (bytes 2 mask) ⌝ }
+{
+    let at = entry_place(net, g, p) + o;
+    put16(&mut net[at..at + 2], 0, mask);
+}
+
+// Other children of station p in group g.
+pub fn set_children(net: &mut [u8], g: u8, p: u8, children: u16)
+    requires { ⌜ IsNet (now net) ⌝ }
+    requires { ⌜ (g < view (now net) .groups) × (p < view (now net) .stations) ⌝ }
+    ensures { λ _. ⌜ EntryMade (now (net .entry)) (now (net .exit)) g p (λ e. withChildren e children) ⌝ }
+{
+    set_mask(net, g, p, 8, children);
+}
+
+// Station p in group g waits on these from now on.
+pub fn set_waiting(net: &mut [u8], g: u8, p: u8, waiting: u16)
+    requires { ⌜ IsNet (now net) ⌝ }
+    requires { ⌜ (g < view (now net) .groups) × (p < view (now net) .stations) ⌝ }
+    ensures { λ _. ⌜ EntryMade (now (net .entry)) (now (net .exit)) g p (λ e. withWaiting e waiting) ⌝ }
+{
+    set_mask(net, g, p, 10, waiting);
+}
+
+// Another parent of station p in group g, and another clock: the byte of the one is written, and the four of the other are lent on.
+pub fn set_parent(net: &mut [u8], g: u8, p: u8, parent: u8, clock: u32)
+    requires { ⌜ IsNet (now net) ⌝ }
+    requires { ⌜ (g < view (now net) .groups) × (p < view (now net) .stations) ⌝ }
+    ensures { λ _. ⌜ EntryMade (now (net .entry)) (now (net .exit)) g p (λ e. withClock (withParents e parent (e .tentative)) clock) ⌝ }
+{
+    let at = entry_place(net, g, p);
+    net[at] = parent;
+    let c = at + 4;
+    put32(&mut net[c..c + 4], 0, clock);
 }
 
 // Another route from p towards d.

@@ -15,7 +15,8 @@ ghost use Rattle.bits.specs.Parts.{part};
 ghost use Rattle.protocol.specs.Net.{Net, longestName, group?, station?, near?, capacity};
 ghost use Rattle.protocol.specs.Entries.{countOf, underWay};
 ghost use Rattle.protocol.specs.Rules.{room?, noMessage};
-ghost use Rattle.layout.specs.Layout.{entrySize};
+ghost use Rattle.layout.specs.Layout.{entrySize, channelsAt};
+ghost use Rattle.layout.specs.Marks.{markOf, entryAt};
 ghost use Rattle.channel.specs.Messages.{messagesOf};
 ghost use Rattle.channel.specs.inner.Channels.{IsChannel};
 ghost use Rattle.net.specs.View.{view, entryOf};
@@ -110,16 +111,22 @@ fn read_entry(s: &[u8], at: usize) -> Entry
     }
 }
 
+// Where the entry of station p in group g stands.
+pub fn entry_place(net: &[u8], g: u8, p: u8) -> usize
+    requires { ⌜ IsNet (now net) ⌝ }
+    requires { ⌜ (g < view (now net) .groups) × (p < view (now net) .stations) ⌝ }
+    ensures { λ r. ⌜ (r ≡ entryAt (markOf (now (net .entry))) g p) × (r + entrySize ≤ channelsAt) ⌝ }
+{
+    layout::form::entry_at(layout::form::mark_of(net), wide(g), wide(p))
+}
+
 // The entry of station p in group g.
 pub fn entry_of(net: &[u8], g: u8, p: u8) -> Entry
     requires { ⌜ IsNet (now net) ⌝ }
     requires { ⌜ (g < view (now net) .groups) × (p < view (now net) .stations) ⌝ }
     ensures { λ r. ⌜ r ≡ view (now (net .entry)) .entry g p ⌝ }
 {
-    read_entry(
-        net,
-        layout::form::entry_at(layout::form::mark_of(net), wide(g), wide(p)),
-    )
+    read_entry(net, entry_place(net, g, p))
 }
 
 // The bytes of the channel from s to d.

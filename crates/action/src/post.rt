@@ -14,7 +14,7 @@ ghost use Rattle.access.specs.inner.Nets.{IsNet};
 ghost use Rattle.action.specs.inner.Ends.{MayPost, RequestEnd};
 
 // Station p has the entry e in group g from now on, and sends m to q.
-pub fn post(net: &mut [u8], g: u8, p: u8, e: Entry, q: u8, m: Message)
+fn post(net: &mut [u8], g: u8, p: u8, e: Entry, q: u8, m: Message)
     requires { ⌜ IsNet (now net) ⌝ }
     requires { ⌜ MayPost (view (now net)) g p e q ⌝ }
     requires { ⌜ room? (view (now net)) p q ≡ true ⌝ }

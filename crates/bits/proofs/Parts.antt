@@ -3,6 +3,7 @@
 --     numberAt-add                    a number of two widths joined
 --     wrote-then                      one thing put after another
 --     part-lent, put-whole, lent-back what a part that is lent holds, and what the whole is when it comes back
+--     splice-part                     what is put into a part, put into the whole
 use mathlib.Core.Path.{_≡_, refl, sym, ap, ap₂, _∙_}
 use mathlib.Core.List.{List, [], _∷_, _++_, append-assoc}
 use mathlib.Core.Logic.{_⊎_, inl, inr, ⊎-elim}
@@ -153,6 +154,13 @@ unfolding splice
 put-whole a k xs ys n h =
     let e : drop k (drop a xs) ≡ drop (a + length ys) xs = drop-drop k a xs ∙ ap (λ (m : ℕ). drop (a + m) xs) (sym n) in
     ap (λ (zs : List ℕ). take a xs ++ (ys ++ zs)) e ∙ sym (append-assoc (take a xs) ys (drop (a + length ys) xs)) ∙ sym (sets-eq ys xs a (omega arith))
+
+-- what is put into a part, put into the whole
+pub splice-part : (n : ℕ) (l : List ℕ) (a b : ℕ) (vs : List ℕ) → b + length vs ≤ n → a + n ≤ length l → splice l (a + b) vs ≡ splice l a (splice (part n l a) b vs)
+splice-part n l a b vs h f =
+    sym (lent-back a n l b vs h)
+    ∙ ap (λ (ys : List ℕ). back a n l (splice ys b vs)) (part-lent n l a f)
+    ∙ put-whole a n l (splice (part n l a) b vs) (length-splice _ b vs ∙ length-part n l a) f
 
 -- one element more
 pub splice-more : (l s : List ℕ) (a i : ℕ) (xs : List ℕ) (v : ℕ) → s ≡ splice l a xs → length xs ≡ i → set s (a + i) v ≡ splice l a (xs ++ (v ∷ []))

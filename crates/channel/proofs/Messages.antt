@@ -2,15 +2,17 @@
 --     removed-list, sent-list, nth-message    removing, sending and reading, said of the messages
 use mathlib.Core.Path.{_≡_, refl, ap, sym, _∙_, subst}
 use mathlib.Core.List.{List, [], _∷_, _++_, map}
-use Prim.Native.Nat.{ℕ, suc, _+_, _*_, _^_, _≤_, _<_}
+use Prim.Native.Nat.{ℕ, suc, _+_, _*_, _-_, _^_, _≤_, _<_}
+use native.Mathlib.Nat.{add-sub-cancel-left}
 use native.Mathlib.Numerals.{add-one}
+use native.Mathlib.Omega.{arith}
 use lib.ListN.{length, take, getD, List·getD-map}
 use lib.Seq.{take-suc}
 use Rattle.bits.specs.Sums.{bit}
 use Rattle.bits.specs.Numbers.{Bytes, bytes, number, onto}
-use Rattle.bits.specs.Parts.{part, numberAt}
+use Rattle.bits.specs.Parts.{part, numberAt, splice}
 use Rattle.bits.proofs.Numbers.{length-bytes, number-bytes}
-use Rattle.bits.proofs.Parts.{lent, bytes-numberAt, part-all}
+use Rattle.bits.proofs.Parts.{lent, back, bytes-numberAt, length-part, part-Bytes, part-lent, part-all, put-whole}
 use Rattle.protocol.specs.declared.Message.{Message}
 use Rattle.protocol.specs.Net.{capacity, removeAt}
 use Rattle.protocol.specs.Entries.{isOf, countOf}
@@ -37,6 +39,16 @@ message-back m h = λ i. record { kind = m .kind; group = m .group; connected = 
 pub slot-back : (s : List ℕ) → length s ≡ messageSize → Bytes s → messageBytes (messageOf s) ≡ s
 unfolding part
 slot-back s e h = rw (bytes-numberAt 4 s 3 h) (rw e at (part-all s))
+
+-- the message of the slot behind the one at `at`, written there
+pub moved-one : (at : ℕ) (s : List ℕ) (m : Message) (t : List ℕ) → Bytes s → at + messageSize + messageSize ≤ length s
+    → m ≡ messageOf (lent (at + messageSize) (at + messageSize + messageSize - (at + messageSize)) s) → t ≡ messageBytes m
+    → back at (at + messageSize - at) s t ≡ splice s at (part messageSize s (at + messageSize))
+moved-one at s m t h f hm ht =
+    let b = part messageSize s (at + messageSize) in
+    let slot : lent (at + messageSize) (at + messageSize + messageSize - (at + messageSize)) s ≡ b = rw (add-sub-cancel-left (at + messageSize) messageSize) (part-lent messageSize s (at + messageSize) f) in
+    let e : t ≡ b = ht ∙ ap messageBytes (hm ∙ ap messageOf slot) ∙ slot-back b (length-part messageSize s (at + messageSize)) (part-Bytes messageSize s (at + messageSize) h) in
+    rw (add-sub-cancel-left at messageSize, e) (put-whole at messageSize s b (length-part messageSize s (at + messageSize)) (omega arith))
 
 no-message : messageOf [] ≡ noMessage
 unfolding numberAt part number onto

@@ -1,21 +1,20 @@
 -- The oldest message from s to d, and the net once it is taken out.
-use mathlib.Core.Path.{_≡_, sym, subst}
+use mathlib.Core.Path.{_≡_}
 use mathlib.Core.Bool.{true}
 use mathlib.Core.List.{List}
 use Prim.Native.Nat.{ℕ, _<_}
 use borrow.Author.Tests.{lt-ltb}
-use Rattle.protocol.specs.declared.Entry.{Entry}
 use Rattle.protocol.specs.Net.{Net, setEntry, setChannel, takeAt}
-use Rattle.protocol.specs.Entries.{withChild}
+use Rattle.protocol.specs.Entries.{withChild, stopsWaiting}
 use Rattle.protocol.specs.Rules.{oldest, room?}
 use Rattle.protocol.specs.Shaped.{Shaped}
 use Rattle.protocol.proofs.shape.Actions.{near-cable, oldest-shaped, answer-entry, taken-room}
-use Rattle.protocol.proofs.shape.Changes.{take-shaped}
+use Rattle.protocol.proofs.shape.Changes.{entry-shaped, take-shaped}
+use Rattle.protocol.proofs.shape.Entries.{shaped-stops}
 use Rattle.net.specs.View.{view}
 use Rattle.net.specs.Encode.{bytesLike}
 use Rattle.access.specs.inner.Nets.{IsNet}
 use Rattle.access.proofs.Laws.{is-net-after}
-use Rattle.action.specs.inner.Ends.{MayPost}
 use Rattle.deliver.specs.inner.MayDeliver.{MayDeliver}
 
 module _ (N : Net) (H : Shaped N) (s d : ℕ) (O : MayDeliver N s d) where
@@ -31,15 +30,13 @@ module _ (N : Net) (H : Shaped N) (s d : ℕ) (O : MayDeliver N s d) where
   pub taken : (l l' : List ℕ) → l' ≡ bytesLike l (takeAt N s d 0) → (IsNet l') × (view l' ≡ takeAt N s d 0) × ((M : Net) → bytesLike l' M ≡ bytesLike l M)
   taken l l' = is-net-after l (takeAt N s d 0) l' (take-shaped N H s d 0)
 
-  -- the receiver of a request lists the sender, and may reply
-  pub may-reply : (g : ℕ) (e : Entry) → g ≡ oldest (N .channel) s d .group → e ≡ withChild (N .entry g d) s → MayPost (takeAt N s d 0) g d e s
+  -- the receiver of a request lists the sender: that of a reply waits on it no longer
+  pub listed : (g : ℕ) → g ≡ oldest (N .channel) s d .group → Shaped (setEntry (takeAt N s d 0) g d (withChild (N .entry g d) s))
+  listed g i = answer-entry N H s d (O .between) (O .some) g i
+
+  pub waited : (g : ℕ) → g ≡ oldest (N .channel) s d .group → Shaped (setEntry (takeAt N s d 0) g d (stopsWaiting (N .entry g d) s))
   unfolding takeAt setChannel
-  may-reply g e i j = record {
-    group = grouped g i;
-    from = receiver;
-    to = sender;
-    between = subst (λ (e : Entry). Shaped (setEntry (takeAt N s d 0) g d e)) (sym j) (answer-entry N H s d (O .between) (O .some) g i);
-  }
+  waited g i = entry-shaped (takeAt N s d 0) (take-shaped N H s d 0) g d _ (grouped g i) receiver (shaped-stops (H .entries g d) s)
 
   -- a message taken out leaves the room there was
   pub room-kept : room? N d s ≡ true → room? (takeAt N s d 0) d s ≡ true

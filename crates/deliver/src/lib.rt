@@ -27,7 +27,8 @@ fn answer(net: &mut [u8], s: u8, d: u8, g: u8)
     let root = access::read::root_of(net, g);
     let e = entries::with_child(access::read::entry_of(net, g, d), s);
     access::change::take_at(net, s, d, 0);
-    action::post::post(net, g, d, e, s, entries::reply_of(g, root, d, e));
+    access::change::set_children(net, g, d, e.children);
+    access::change::send(net, d, s, entries::reply_of(g, root, d, e));
 }
 
 // A reply is heard: the receiver waits no longer, and may adopt the sender. Which case holds is the answer.
@@ -41,8 +42,12 @@ fn hear(net: &mut [u8], s: u8, d: u8, m: Message) -> Case
     let g = m.group;
     let e = access::read::entry_of(net, g, d);
     let case = entries::case_of(e, s, m);
+    let f = entries::stops_waiting(e, s);
     access::change::take_at(net, s, d, 0);
-    access::change::set_entry(net, g, d, entries::hearing(e, s, m, case));
+    access::change::set_waiting(net, g, d, f.waiting);
+    if entries::is_adopted(case) {
+        access::change::set_parent(net, g, d, s, m.clock);
+    }
     case
 }
 

@@ -12,6 +12,7 @@ ghost use lib.Dec.{eqb};
 ghost use Rattle.bits.specs.Masks as mask;
 ghost use Rattle.bits.specs.Sums.{bit};
 ghost use Rattle.protocol.specs.Net.{nil, mostStations, largestClock};
+ghost use Rattle.protocol.specs.declared.Case.the-variants.{Adopted};
 ghost use Rattle.protocol.specs.Cases as reply;
 ghost use Rattle.protocol.specs.Entries as rule;
 
@@ -169,24 +170,9 @@ pub fn case_number(c: Case) -> u8
     }
 }
 
-fn adopting(mut e: Entry, s: u8, m: Message) -> Entry
-    ensures { λ r. ⌜ r ≡ rule.adopting e s m ⌝ }
+// Whether it is the case in which a reply is taken.
+pub fn is_adopted(c: Case) -> bool
+    ensures { λ r. ⌜ r ≡ eqb (reply.caseNumber c) (reply.caseNumber Adopted) ⌝ }
 {
-    e.parent = s;
-    e.clock = m.clock;
-    e
-}
-
-// A reply from s is heard, and c is its case: the station waits on s no longer, and if c is adopted, s becomes its parent.
-pub fn hearing(e: Entry, s: u8, m: Message, c: Case) -> Entry
-    requires { ⌜ (s < mostStations) × (c ≡ reply.caseOf e s m) ⌝ }
-    ensures { λ r. ⌜ r ≡ rule.hearing e s m ⌝ }
-{
-    let f = stops_waiting(e, s);
-    match c {
-        Case::Adopted => adopting(f, s, m),
-        Case::NotTentative => f,
-        Case::Unconnected => f,
-        Case::NotGreater => f,
-    }
+    case_number(c) == case_number(Case::Adopted)
 }

@@ -4,20 +4,24 @@
 --     seen, view-bytes, view-injective      bytes that passed
 --     bytes-hold, hold-bytes, bytes-same    the bytes of a net
 --     stands, passes, bytes-view            the bytes of a well-shaped net
---     bytes-entry, bytes-channel, bytes-route    one thing put anew
+--     bytes-entry, bytes-field, bytes-parent, bytes-channel, bytes-route    one thing put anew
 use mathlib.Core.Path.{_≡_, refl, sym, ap, subst, _∙_}
 use mathlib.Core.Bool.{true}
 use mathlib.Core.List.{List, [], _∷_}
-use Prim.Native.Nat.{ℕ, _≤_, _<_}
+use Prim.Native.Nat.{ℕ, _+_, _≤_, _<_}
 use native.Mathlib.Omega.{arith}
 use lib.ListN.{length}
+use Rattle.bits.specs.Numbers.{bytes}
 use Rattle.bits.specs.Parts.{part, splice}
-use Rattle.bits.proofs.Parts.{length-part}
+use Rattle.bits.proofs.Numbers.{length-bytes}
+use Rattle.bits.proofs.Parts.{length-part, part-whole, splice-part}
 use Rattle.protocol.specs.declared.Entry.{Entry}
 use Rattle.protocol.specs.declared.Message.{Message}
 use Rattle.protocol.specs.Net.{Net, capacity, mostStations, mostGroups, setEntry, setChannel, setRoute}
 use Rattle.protocol.specs.Fresh.{planOf}
 use Rattle.protocol.specs.Shaped.{version1, Shaped}
+use Rattle.protocol.specs.Entries.{withParents, withClock}
+use Rattle.protocol.proofs.laws.Maps.{upd2-hit, set-again}
 use Rattle.protocol.proofs.shape.Changes.{blank-shaped}
 use Rattle.layout.specs.Layout.{stations, groups, routesAt, routeAt, route, entriesAt, entrySize, channelsAt, channelSize, channelRowSize, channelAt, messageSize}
 use Rattle.channel.specs.Messages.{messagesOf, channelBytes}
@@ -42,6 +46,7 @@ use Rattle.forms.proofs.form.Back as back
 use Rattle.forms.proofs.form.Changes as changes
 use Rattle.net.specs.View.{entryOf, view}
 use Rattle.net.specs.Encode.{entryBytes, entriesLaid, bytesAs}
+use Rattle.net.proofs.Records.{length-entryBytes, parent-put, clock-put}
 use Rattle.net.proofs.Codecs.{routeCodec, entryCodec, messageCodec}
 
 -- ---- the forms
@@ -184,6 +189,20 @@ module _ (m : Mark) (N : Net) (few : N .stations ≤ mostStations) (fewGroups : 
   unfolding bytesAs bytesIn
   bytes-entry g p e hg hp = changes.bytes-entry (formOf m) N few fewGroups g p e tt hg hp
 
+  -- the entry's bytes, and one field of them put anew
+  pub bytes-of-entry : (g p : ℕ) → g < N .groups → p < N .stations → part entrySize (bytesAs m N) (entryAt m g p) ≡ entryBytes (N .entry g p)
+  bytes-of-entry g p hg hp =
+      bytes-hold m N .entries g p (omega arith) (omega arith)
+      ∙ rw (used-in g (N .groups) p (N .stations) hg hp) (part-whole entrySize (entryBytes (N .entry g p)) (length-entryBytes (N .entry g p)))
+
+  pub bytes-field : (g p o : ℕ) (vs : List ℕ) (e : Entry) → splice (entryBytes (N .entry g p)) o vs ≡ entryBytes e → o + length vs ≤ entrySize → g < N .groups → p < N .stations
+      → splice (bytesAs m N) (entryAt m g p + o) vs ≡ bytesAs m (setEntry N g p e)
+  bytes-field g p o vs e put fits hg hp =
+      splice-part entrySize (bytesAs m N) (entryAt m g p) o vs fits (omega (arith, entries-laid m .inside g p (omega arith) (omega arith) .1, bytes-hold m N .long))
+      ∙ ap (λ (x : List ℕ). splice (bytesAs m N) (entryAt m g p) (splice x o vs)) (bytes-of-entry g p hg hp)
+      ∙ ap (splice (bytesAs m N) (entryAt m g p)) put
+      ∙ sym (bytes-entry g p e hg hp)
+
   pub bytes-channel : (s d : ℕ) (ms : List Message) → length ms ≤ capacity → s < N .stations → d < N .stations
       → bytesAs m (setChannel N s d ms) ≡ splice (bytesAs m N) (channelAt s d) (channelBytes ms)
   unfolding bytesAs bytesIn
@@ -192,3 +211,17 @@ module _ (m : Mark) (N : Net) (few : N .stations ≤ mostStations) (fewGroups : 
   pub bytes-route : (p d q : ℕ) → p < N .stations → d < N .stations → bytesAs m (setRoute N p d q) ≡ splice (bytesAs m N) (routeAt p d) (q ∷ [])
   unfolding bytesAs bytesIn
   bytes-route p d q hp hd = changes.bytes-route (formOf m) N few fewGroups p d q tt hp hd
+
+-- a parent and a clock: one field after the other
+pub bytes-parent : (m : Mark) (N : Net) → N .stations ≤ mostStations → N .groups ≤ mostGroups → (g p q k : ℕ) → g < N .groups → p < N .stations
+    → let e = N .entry g p in let at = entryAt m g p in
+    splice (splice (bytesAs m N) (at + 0) (q ∷ [])) (at + 4) (bytes 4 k) ≡ bytesAs m (setEntry N g p (withClock (withParents e q (e .tentative)) k))
+unfolding setEntry
+bytes-parent m N few fewGroups g p q k hg hp =
+    let e = N .entry g p in
+    let f = withParents e q (e .tentative) in
+    let there : setEntry N g p f .entry g p ≡ f = upd2-hit (N .entry) g p f in
+    let put : splice (entryBytes (setEntry N g p f .entry g p)) 4 (bytes 4 k) ≡ entryBytes (withClock f k) = rw there (clock-put f k) in
+    ap (λ (x : List ℕ). splice x (entryAt m g p + 4) (bytes 4 k)) (bytes-field m N few fewGroups g p 0 (q ∷ []) f (parent-put e q) (omega arith) hg hp)
+    ∙ bytes-field m (setEntry N g p f) few fewGroups g p 4 (bytes 4 k) (withClock f k) put (omega (arith, length-bytes 4 k)) hg hp
+    ∙ ap (bytesAs m) (set-again N g p f (withClock f k))

@@ -1,5 +1,5 @@
 -- Laws of the bytes of one entry and one message.
-use mathlib.Core.Path.{_≡_, sym, ap, _∙_}
+use mathlib.Core.Path.{_≡_, refl, sym, ap, _∙_}
 use mathlib.Core.List.{List, [], _∷_, _++_}
 use Prim.Native.Nat.{ℕ, _+_, _-_, _^_, _≤_, _<_}
 use native.Mathlib.Nat.{add-zero}
@@ -12,6 +12,7 @@ use Rattle.bits.proofs.Cases.{by-lt}
 use Rattle.bits.proofs.Numbers.{length-bytes, number-bytes}
 use Rattle.bits.proofs.Parts.{getD-part, numberAt-part, bytes-numberAt, part-all, splice-append, getD-zeros}
 use Rattle.protocol.specs.declared.Entry.{Entry}
+use Rattle.protocol.specs.Entries.{withParents, withClock, withChildren, withWaiting}
 use Rattle.net.specs.View.{entryOf}
 use Rattle.net.specs.Encode.{entryBytes}
 
@@ -38,6 +39,23 @@ stores l a e =
     ∙ ap (λ (x : List ℕ). r (splice x (a + 8) b2)) (splice-append l a h b4)
     ∙ ap r (splice-append l a (h ++ b4) b2)
     ∙ splice-append l a (h ++ b4 ++ b2) (bytes 2 (e .waiting))
+
+-- a field put anew among an entry's bytes
+pub parent-put : (e : Entry) (q : ℕ) → splice (entryBytes e) 0 (q ∷ []) ≡ entryBytes (withParents e q (e .tentative))
+unfolding entryBytes bytes splice
+parent-put e q = refl
+
+pub clock-put : (e : Entry) (k : ℕ) → splice (entryBytes e) 4 (bytes 4 k) ≡ entryBytes (withClock e k)
+unfolding entryBytes bytes splice
+clock-put e k = refl
+
+pub children-put : (e : Entry) (m : ℕ) → splice (entryBytes e) 8 (bytes 2 m) ≡ entryBytes (withChildren e m)
+unfolding entryBytes bytes splice
+children-put e m = refl
+
+pub waiting-put : (e : Entry) (m : ℕ) → splice (entryBytes e) 10 (bytes 2 m) ≡ entryBytes (withWaiting e m)
+unfolding entryBytes bytes splice
+waiting-put e m = refl
 
 -- the fields of an entry, read where they stand
 pub fields : (l : List ℕ) (o : ℕ) → entryOf (part 12 l o) ≡

@@ -4,11 +4,13 @@ use mathlib.Core.Bool.{true}
 use mathlib.Core.List.{List}
 use Prim.Native.Nat.{ℕ, _≤_}
 use lib.ListN.{length}
-use Rattle.protocol.specs.Net.{mostStations, mostGroups}
+use Rattle.protocol.specs.declared.Entry.{Entry}
+use Rattle.protocol.specs.Net.{mostStations, mostGroups, setEntry}
 use Rattle.layout.specs.Layout.{netLength, stations, groups}
 use Rattle.layout.specs.Marks.{markOf}
 use Rattle.shape.specs.Shape.{shapedAs}
 use Rattle.net.specs.View.{view}
+use Rattle.net.specs.Encode.{bytesLike}
 
 -- the first field says it all; the others follow from it, and are here for the callers' arithmetic
 pub record IsNet (l : List ℕ) : Type 0 where
@@ -18,3 +20,7 @@ pub record IsNet (l : List ℕ) : Type 0 where
   pub groupsShown : view l .groups ≡ groups l
   pub stationsMost : view l .stations ≤ mostStations
   pub groupsMost : view l .groups ≤ mostGroups
+
+-- l' is l with the entry of group g and station p made into another
+abbrev pub EntryMade : (l l' : List ℕ) → (g p : ℕ) → (Entry → Entry) → Type 0
+EntryMade l l' g p f = l' ≡ bytesLike l (setEntry (view l) g p (f (view l .entry g p)))

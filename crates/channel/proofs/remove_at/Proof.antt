@@ -11,14 +11,14 @@ use Rattle.channel.proofs.remove_at.Tie as tie
 slice-read-n : tie.Need-slice-read-n
 slice-read-n c = search needs
 
+cast-k : tie.Need-cast-k
+cast-k c = search needs
+
 mul-at : tie.Need-mul-at
 mul-at c = search needs
 
 add-at : tie.Need-add-at
 add-at c = search needs
-
-cast-end : tie.Need-cast-end
-cast-end c = search needs
 
 mul-end : tie.Need-mul-end
 mul-end c = search needs
@@ -34,6 +34,9 @@ part-move-up-start c = search needs
 
 part-move-up-end : tie.Need-part-move-up-end
 part-move-up-end c = search needs
+
+sub-move-up-2 : tie.Need-sub-move-up-2
+sub-move-up-2 c = search needs
 
 move-up-requires : tie.Need-move-up-requires
 move-up-requires c κs = search needs
@@ -59,14 +62,15 @@ remove-at-spec =
     tie.close
     (tie.spec
     slice-read-n
+    cast-k
     mul-at
     add-at
-    cast-end
     mul-end
     add-end
     sub-move-up
     part-move-up-start
     part-move-up-end
+    sub-move-up-2
     move-up-requires
     sub-ch
     slice-write-ch

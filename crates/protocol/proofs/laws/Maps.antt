@@ -7,7 +7,7 @@ use native.Mathlib.Omega.{arith}
 use lib.ListN.{length, getD, length-append}
 use borrow.Author.Tests.{eq-eqb, ne-eqb}
 use Rattle.bits.proofs.Cases.{by-eq}
-use Rattle.protocol.specs.Net.{upd, upd2, removeAt}
+use Rattle.protocol.specs.Net.{NetOf, upd, upd2, removeAt, setEntry}
 use Rattle.protocol.specs.Shaped.{All, none, both}
 
 module _ {A : Type 0} where
@@ -29,8 +29,16 @@ module _ {A : Type 0} where
   pub upd-same : (f : ℕ → A) (i : ℕ) (v : A) → f i ≡ v → upd f i v ≡ f
   upd-same f i v e = fun-ext (upd-all (λ x (w : A). w ≡ f x) (sym e) (λ x _. refl))
 
+  -- a change at the same place goes over the one before it
+  pub upd-again : (f : ℕ → A) (i : ℕ) (v w : A) → upd (upd f i v) i w ≡ upd f i w
+  upd-again f i v w = fun-ext (upd-all (λ x (y : A). y ≡ upd f i w x) (sym (upd-hit f i w i refl)) (λ x n. upd-miss f i v x n ∙ sym (upd-miss f i w x n)))
+
 -- ---- two arguments
 module _ {A : Type 0} where
+  pub upd2-again : (f : ℕ → ℕ → A) (i j : ℕ) (v w : A) → upd2 (upd2 f i j v) i j w ≡ upd2 f i j w
+  unfolding upd2
+  upd2-again f i j v w = upd-again f i (upd (f i) j v) _ ∙ ap (upd f i) (ap (λ (r : ℕ → A). upd r j w) (upd-hit f i (upd (f i) j v) i refl) ∙ upd-again (f i) j v w)
+
   pub upd2-hit : (f : ℕ → ℕ → A) (i j : ℕ) (v : A) → upd2 f i j v i j ≡ v
   unfolding upd2
   upd2-hit f i j v = rw (upd-hit f i (upd (f i) j v) i refl) (upd-hit (f i) j v j refl)
@@ -55,6 +63,11 @@ upd2-all {A} Q {f} {i} {j} {v} a b x =
 pub upd2-miss : {A : Type 0} (f : ℕ → ℕ → A) (i j : ℕ) (v : A) (x y : ℕ) → (x ≡ i → y ≡ j → ⊥) → upd2 f i j v x y ≡ f x y
 upd2-miss {A} f i j v x y n =
     upd2-all (λ x y (w : A). (x ≡ i → y ≡ j → ⊥) → w ≡ f x y) (λ m. absurd (m refl refl)) (λ x y _ _. refl) x y n
+
+-- an entry put where one was put before
+pub set-again : {E M : Type 0} (N : NetOf E M) (g p : ℕ) (e f : E) → setEntry (setEntry N g p e) g p f ≡ setEntry N g p f
+unfolding setEntry
+set-again N g p e f = rw (upd2-again (N .entry) g p e f) refl
 
 -- a function of the changed map is the function's map, changed
 pub upd-map : {A B : Type 0} (f : A → B) (F : ℕ → A) (i : ℕ) (v : A) → (λ x. f (upd F i v x)) ≡ upd (λ x. f (F x)) i (f v)
