@@ -44,7 +44,7 @@ module _ (m : Mark) (l : List ℕ) (k a b c : ℕ) where
   unfolding netAfterStepAs
   refused-after n = rw (ne-eqb _ _ n)
 
-  not-net : shapedAs m l ≡ false → netAfterStepAs m l k a b c ≡ l
+  pub not-net : shapedAs m l ≡ false → netAfterStepAs m l k a b c ≡ l
   unfolding netAfterStepAs stepOutcomeAs
   not-net f = rw f
 
