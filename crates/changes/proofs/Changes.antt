@@ -123,8 +123,8 @@ module _ (m : Mark) (l : List ℕ) (s d c : ℕ) where
   unfolding sizes
   waited-sizes = refl
 
-  pub delivery-sizes : let oldest = oldest (N .channel) s d in
-      sizes (delivering m l s d) ≡ messageSize * k + cond (eqb (oldest .kind) request) 11 (cond (adopts (N .entry (oldest .group) d) s oldest) 8 3)
+  pub delivery-sizes : let x = oldest (N .channel) s d in
+      sizes (delivering m l s d) ≡ messageSize * k + cond (eqb (x .kind) request) 11 (cond (adopts (N .entry (x .group) d) s x) 8 3)
   unfolding delivering
   delivery-sizes =
       let x = oldest (N .channel) s d in

@@ -27,8 +27,10 @@ goingOut l s d = let k = length (view l .channel s d) in further (channelAt s d)
 -- stops waiting on the sender"; if it is taken, "the sender becomes parent and the clock is taken"
 unfoldable pub delivering : Mark → List ℕ → ℕ → ℕ → List Stretch
 delivering m l s d =
-    let oldest = oldest (view l .channel) s d in
-    let at = entryAt m (oldest .group) d in
-    takingOut l s d 0 ++ cond (eqb (oldest .kind) request)
+    let x = oldest (view l .channel) s d in
+    let at = entryAt m (x .group) d in
+    takingOut l s d 0 ++ cond (eqb (x .kind) request)
+    -- the children
     (stretch (at + 8) 2 ∷ goingOut l d s)
-    (stretch (at + 10) 2 ∷ cond (adopts (view l .entry (oldest .group) d) s oldest) (stretch at 1 ∷ stretch (at + 4) 4 ∷ []) [])
+    -- the waiting; the parent and the clock
+    (stretch (at + 10) 2 ∷ cond (adopts (view l .entry (x .group) d) s x) (stretch at 1 ∷ stretch (at + 4) 4 ∷ []) [])

@@ -19,5 +19,5 @@ pub record Removed (w k i : ℕ) (b b′ : List ℕ) : Type 0 where
   pub count : getD b′ 0 0 ≡ k - 1
   -- the slots behind the i-th, (k - 1 - i) * w bytes, moved up by one slot
   pub moved : part ((k - 1 - i) * w) b′ (1 + i * w) ≡ part ((k - 1 - i) * w) b (1 + (i + 1) * w)
-  -- the last slot, w bytes, is cleared
+  -- the last slot that was in use, w bytes, is cleared
   pub cleared : part w b′ (1 + (k - 1) * w) ≡ replicate w 0

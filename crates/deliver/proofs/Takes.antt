@@ -30,7 +30,7 @@ module _ (N : Net) (H : Shaped N) (s d : ℕ) (O : MayDeliver N s d) where
   pub taken : (l l' : List ℕ) → l' ≡ bytesLike l (takeAt N s d 0) → (IsNet l') × (view l' ≡ takeAt N s d 0) × ((M : Net) → bytesLike l' M ≡ bytesLike l M)
   taken l l' = is-net-after l (takeAt N s d 0) l' (take-shaped N H s d 0)
 
-  -- the receiver of a request lists the sender: that of a reply waits on it no longer
+  -- the receiver of a request lists the sender; that of a reply waits on it no longer
   pub listed : (g : ℕ) → g ≡ oldest (N .channel) s d .group → Shaped (setEntry (takeAt N s d 0) g d (withChild (N .entry g d) s))
   listed g i = answer-entry N H s d (O .between) (O .some) g i
 
