@@ -1,10 +1,10 @@
 // One thing of a net changed in its bytes.
-use crate::read::entry_place;
+use bits::number::put8;
 use bits::number::put16;
 use bits::number::put32;
 use bits::number::wide;
+use layout::form::Mark;
 use layout::form::in_stretch;
-use layout::form::mark_of;
 use layout::form::stretch_at;
 use layout::form::stretch_size;
 use layout::offset::CHANNEL_SIZE;
@@ -13,14 +13,15 @@ use layout::offset::route_at;
 use protocol::Entry;
 use protocol::Message;
 ghost use mathlib.Core.Path.{_≡_};
+ghost use mathlib.Core.List.{[], _∷_};
 ghost use Prim.Native.Nat.{_+_, _≤_, _<_};
 ghost use lib.ListN.{length};
 ghost use Rattle.bits.specs.Numbers.{bytes};
 ghost use Rattle.bits.specs.Parts.{splice};
-ghost use Rattle.protocol.specs.Net.{Net, capacity, setEntry, setRoute, send, takeAt};
-ghost use Rattle.protocol.specs.Entries.{withParents, withClock, withChildren, withWaiting};
-ghost use Rattle.layout.specs.Layout.{entrySize};
-ghost use Rattle.layout.specs.Marks.{markOf, entryAt};
+ghost use Rattle.protocol.specs.Net.{Net, mostGroups, mostStations, capacity, setRoute, send, takeAt};
+ghost use Rattle.protocol.specs.Entries.{withParents, withMember, withClock, withChildren, withWaiting};
+ghost use Rattle.layout.specs.Layout.{entrySize, netLength};
+ghost use Rattle.layout.specs.Marks.{entryAt};
 ghost use Rattle.net.specs.View.{view};
 ghost use Rattle.net.specs.Encode.{entryBytes, bytesLike};
 ghost use Rattle.access.specs.inner.Nets.{IsNet, EntryMade};
@@ -39,55 +40,71 @@ pub fn write_entry(stretch: &mut [u8], at: usize, e: Entry)
     put16(stretch, at + 10, e.waiting);
 }
 
-// Another entry of station p in group g: only the part that starts at the group's entries, and ends with them, is lent on.
-pub fn set_entry(net: &mut [u8], g: u8, p: u8, e: Entry)
-    requires { ⌜ IsNet (now net) ⌝ }
-    requires { ⌜ (g < view (now net) .groups) × (p < view (now net) .stations) ⌝ }
-    ensures { λ _. ⌜ now (net .exit) ≡ bytesLike (now (net .entry)) (setEntry (view (now (net .entry))) g p e) ⌝ }
+// A field of the entry of station p in group g, o bytes into it: a byte, or a mask. Only the part that starts at the group's entries,
+// and ends with them, is lent on.
+fn set_byte(net: &mut [u8], m: Mark, g: u8, p: u8, o: usize, v: u8)
+    requires { ⌜ (length (now net) ≡ netLength) × (g < mostGroups) × (p < mostStations) × (o + 1 ≤ entrySize) ⌝ }
+    ensures { λ _. ⌜ now (net .exit) ≡ splice (now (net .entry)) (entryAt m g p + o) (v ∷ []) ⌝ }
 {
-    let m = mark_of(net);
     let a = stretch_at(m, wide(g));
-    write_entry(&mut net[a..a + stretch_size(m)], in_stretch(m, wide(p)), e);
+    put8(&mut net[a..a + stretch_size(m)], in_stretch(m, wide(p)) + o, v);
 }
 
-// One of the two masks of an entry, o bytes into it: its two bytes alone are lent on.
-fn set_mask(net: &mut [u8], g: u8, p: u8, o: usize, mask: u16)
-    requires { ⌜ IsNet (now net) ⌝ }
-    requires { ⌜ (g < view (now net) .groups) × (p < view (now net) .stations) × (o + 2 ≤ entrySize) ⌝ }
-    ensures { λ _. ⌜ now (net .exit) ≡ splice (now (net .entry)) (entryAt (markOf (now (net .entry))) g p + o) (bytes 2 mask) ⌝ }
+fn set_mask(net: &mut [u8], m: Mark, g: u8, p: u8, o: usize, mask: u16)
+    requires { ⌜ (length (now net) ≡ netLength) × (g < mostGroups) × (p < mostStations) × (o + 2 ≤ entrySize) ⌝ }
+    ensures { λ _. ⌜ now (net .exit) ≡ splice (now (net .entry)) (entryAt m g p + o) (bytes 2 mask) ⌝ }
 {
-    let at = entry_place(net, g, p) + o;
-    put16(&mut net[at..at + 2], 0, mask);
+    let a = stretch_at(m, wide(g));
+    put16(&mut net[a..a + stretch_size(m)], in_stretch(m, wide(p)) + o, mask);
 }
 
-// Other children of station p in group g.
-pub fn set_children(net: &mut [u8], g: u8, p: u8, children: u16)
-    requires { ⌜ IsNet (now net) ⌝ }
-    requires { ⌜ (g < view (now net) .groups) × (p < view (now net) .stations) ⌝ }
-    ensures { λ _. ⌜ EntryMade (now (net .entry)) (now (net .exit)) g p (λ e. withChildren e children) ⌝ }
+// Another parent of station p in group g.
+pub fn set_parent(net: &mut [u8], m: Mark, g: u8, p: u8, q: u8)
+    requires { ⌜ (length (now net) ≡ netLength) × (g < mostGroups) × (p < mostStations) ⌝ }
+    ensures { λ _. ⌜ EntryMade m (now (net .entry)) (now (net .exit)) g p (λ e. withParents e q (e .tentative)) ⌝ }
 {
-    set_mask(net, g, p, 8, children);
+    set_byte(net, m, g, p, 0, q);
 }
 
-// Station p in group g waits on these from now on.
-pub fn set_waiting(net: &mut [u8], g: u8, p: u8, waiting: u16)
-    requires { ⌜ IsNet (now net) ⌝ }
-    requires { ⌜ (g < view (now net) .groups) × (p < view (now net) .stations) ⌝ }
-    ensures { λ _. ⌜ EntryMade (now (net .entry)) (now (net .exit)) g p (λ e. withWaiting e waiting) ⌝ }
+// Another tentative parent.
+pub fn set_tentative(net: &mut [u8], m: Mark, g: u8, p: u8, q: u8)
+    requires { ⌜ (length (now net) ≡ netLength) × (g < mostGroups) × (p < mostStations) ⌝ }
+    ensures { λ _. ⌜ EntryMade m (now (net .entry)) (now (net .exit)) g p (λ e. withParents e (e .parent) q) ⌝ }
 {
-    set_mask(net, g, p, 10, waiting);
+    set_byte(net, m, g, p, 1, q);
 }
 
-// Another parent of station p in group g, and another clock: the byte of the one is written, and the four of the other are lent on.
-pub fn set_parent(net: &mut [u8], g: u8, p: u8, parent: u8, clock: u32)
-    requires { ⌜ IsNet (now net) ⌝ }
-    requires { ⌜ (g < view (now net) .groups) × (p < view (now net) .stations) ⌝ }
-    ensures { λ _. ⌜ EntryMade (now (net .entry)) (now (net .exit)) g p (λ e. withClock (withParents e parent (e .tentative)) clock) ⌝ }
+// The member flag.
+pub fn set_member(net: &mut [u8], m: Mark, g: u8, p: u8, v: u8)
+    requires { ⌜ (length (now net) ≡ netLength) × (g < mostGroups) × (p < mostStations) ⌝ }
+    ensures { λ _. ⌜ EntryMade m (now (net .entry)) (now (net .exit)) g p (λ e. withMember e v) ⌝ }
 {
-    let at = entry_place(net, g, p);
-    net[at] = parent;
-    let c = at + 4;
-    put32(&mut net[c..c + 4], 0, clock);
+    set_byte(net, m, g, p, 2, v);
+}
+
+// Another clock.
+pub fn set_clock(net: &mut [u8], m: Mark, g: u8, p: u8, clock: u32)
+    requires { ⌜ (length (now net) ≡ netLength) × (g < mostGroups) × (p < mostStations) ⌝ }
+    ensures { λ _. ⌜ EntryMade m (now (net .entry)) (now (net .exit)) g p (λ e. withClock e clock) ⌝ }
+{
+    let a = stretch_at(m, wide(g));
+    put32(&mut net[a..a + stretch_size(m)], in_stretch(m, wide(p)) + 4, clock);
+}
+
+// Other children.
+pub fn set_children(net: &mut [u8], m: Mark, g: u8, p: u8, children: u16)
+    requires { ⌜ (length (now net) ≡ netLength) × (g < mostGroups) × (p < mostStations) ⌝ }
+    ensures { λ _. ⌜ EntryMade m (now (net .entry)) (now (net .exit)) g p (λ e. withChildren e children) ⌝ }
+{
+    set_mask(net, m, g, p, 8, children);
+}
+
+// The station waits on these from now on.
+pub fn set_waiting(net: &mut [u8], m: Mark, g: u8, p: u8, waiting: u16)
+    requires { ⌜ (length (now net) ≡ netLength) × (g < mostGroups) × (p < mostStations) ⌝ }
+    ensures { λ _. ⌜ EntryMade m (now (net .entry)) (now (net .exit)) g p (λ e. withWaiting e waiting) ⌝ }
+{
+    set_mask(net, m, g, p, 10, waiting);
 }
 
 // Another route from p towards d.

@@ -2,17 +2,20 @@
 use bits::number::get16;
 use bits::number::get32;
 use bits::number::wide;
+use layout::form::Mark;
 use layout::offset::CHANNEL_SIZE;
 use protocol::CAPACITY;
 use protocol::Entry;
+use protocol::MOST_STATIONS;
 use protocol::Message;
 use protocol::REPLY;
 use protocol::REQUEST;
 ghost use mathlib.Core.Path.{_≡_};
 ghost use Prim.Native.Nat.{_+_, _≤_, _<_};
+ghost use lib.Dec.{eqb};
 ghost use lib.ListN.{length, getD};
 ghost use Rattle.bits.specs.Parts.{part};
-ghost use Rattle.protocol.specs.Net.{Net, longestName, group?, station?, near?, capacity};
+ghost use Rattle.protocol.specs.Net.{Net, longestName, mostGroups, mostStations, group?, station?, near?};
 ghost use Rattle.protocol.specs.Entries.{countOf, underWay};
 ghost use Rattle.protocol.specs.Rules.{room?, noMessage};
 ghost use Rattle.layout.specs.Layout.{entrySize, channelsAt};
@@ -54,19 +57,16 @@ pub fn is_station(net: &[u8], p: u8) -> bool
     p < stations(net)
 }
 
-// Whether p and q are stations, and neighbours.
+// Whether p and q are stations, and neighbours: a station that there is not has none.
 pub fn near(net: &[u8], p: u8, q: u8) -> bool
     requires { ⌜ IsNet (now net) ⌝ }
     ensures { λ r. ⌜ r ≡ near? (view (now (net .entry))) p q ⌝ }
 {
-    let n = stations(net);
-    if p >= n {
+    let at = wide(p);
+    if at >= MOST_STATIONS {
         return false;
     }
-    if q >= n {
-        return false;
-    }
-    bits::mask::has_at(layout::front::neighbours(net, wide(p)), wide(q))
+    bits::mask::has(layout::front::neighbours(net, at), q)
 }
 
 // The name of group g.
@@ -111,22 +111,30 @@ fn read_entry(s: &[u8], at: usize) -> Entry
     }
 }
 
-// Where the entry of station p in group g stands.
-pub fn entry_place(net: &[u8], g: u8, p: u8) -> usize
-    requires { ⌜ IsNet (now net) ⌝ }
-    requires { ⌜ (g < view (now net) .groups) × (p < view (now net) .stations) ⌝ }
-    ensures { λ r. ⌜ (r ≡ entryAt (markOf (now (net .entry))) g p) × (r + entrySize ≤ channelsAt) ⌝ }
+// Where the entry of station p in group g stands, in the form of this mark.
+pub fn entry_place(m: Mark, g: u8, p: u8) -> usize
+    requires { ⌜ (g < mostGroups) × (p < mostStations) ⌝ }
+    ensures { λ r. ⌜ (r ≡ entryAt m g p) × (r + entrySize ≤ channelsAt) ⌝ }
 {
-    layout::form::entry_at(layout::form::mark_of(net), wide(g), wide(p))
+    layout::form::entry_at(m, wide(g), wide(p))
 }
 
-// The entry of station p in group g.
+// The entry of station p in group g, of a net in the form of this mark: whoever reads many knows the form, and need not look.
+pub fn entry_as(net: &[u8], m: Mark, g: u8, p: u8) -> Entry
+    requires { ⌜ IsNet (now net) ⌝ }
+    requires { ⌜ (m ≡ markOf (now net)) × (g < view (now net) .groups) × (p < view (now net) .stations) ⌝ }
+    ensures { λ r. ⌜ r ≡ view (now (net .entry)) .entry g p ⌝ }
+{
+    read_entry(net, entry_place(m, g, p))
+}
+
+// The same, in whatever form the net is.
 pub fn entry_of(net: &[u8], g: u8, p: u8) -> Entry
     requires { ⌜ IsNet (now net) ⌝ }
     requires { ⌜ (g < view (now net) .groups) × (p < view (now net) .stations) ⌝ }
     ensures { λ r. ⌜ r ≡ view (now (net .entry)) .entry g p ⌝ }
 {
-    read_entry(net, entry_place(net, g, p))
+    entry_as(net, layout::form::mark_of(net), g, p)
 }
 
 // The bytes of the channel from s to d.
@@ -166,20 +174,23 @@ pub fn oldest(net: &[u8], s: u8, d: u8) -> Message
     channel::message_at(channel_of(net, s, d), 0)
 }
 
-// How many messages of a kind and a group are on their way from s to d.
-fn count_of(net: &[u8], s: u8, d: u8, kind: u8, g: u8) -> u8
+// Whether no message of a kind and a group is on its way from s to d.
+fn none_of(net: &[u8], s: u8, d: u8, kind: u8, g: u8) -> bool
     requires { ⌜ IsNet (now net) ⌝ }
     requires { ⌜ (s < view (now net) .stations) × (d < view (now net) .stations) ⌝ }
-    ensures { λ r. ⌜ (r ≡ countOf kind g (view (now (net .entry)) .channel s d)) × (r ≤ capacity) ⌝ }
+    ensures { λ r. ⌜ r ≡ eqb (countOf kind g (view (now (net .entry)) .channel s d)) 0 ⌝ }
 {
-    channel::count_of(channel_of(net, s, d), kind, g)
+    channel::none_of(channel_of(net, s, d), kind, g)
 }
 
-// How many requests of p to q and replies of q to p are on their way.
-pub fn under_way(net: &[u8], g: u8, p: u8, q: u8) -> u8
+// Whether no request of p to q and no reply of q to p is on its way.
+pub fn quiet(net: &[u8], g: u8, p: u8, q: u8) -> bool
     requires { ⌜ IsNet (now net) ⌝ }
     requires { ⌜ (p < view (now net) .stations) × (q < view (now net) .stations) ⌝ }
-    ensures { λ r. ⌜ r ≡ underWay (view (now (net .entry)) .channel) g p q ⌝ }
+    ensures { λ r. ⌜ r ≡ eqb (underWay (view (now (net .entry)) .channel) g p q) 0 ⌝ }
 {
-    count_of(net, p, q, REQUEST, g) + count_of(net, q, p, REPLY, g)
+    if !none_of(net, p, q, REQUEST, g) {
+        return false;
+    }
+    none_of(net, q, p, REPLY, g)
 }

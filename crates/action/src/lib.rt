@@ -1,14 +1,15 @@
-// What the nine actions have in common: their operands, their answer, and an entry put with a message sent.
-pub mod answers;
+// What the nine actions have in common: their operands and their answer.
 pub mod operands;
-pub mod post;
 
-// The answer of an action: its outcome, the messages that it sent, delivered and lost, and the number of the case of the reply that it
-// heard, 0 where it heard none.
-pub struct Answer {
-    pub outcome: u8,
-    pub sent: u8,
-    pub delivered: u8,
-    pub lost: u8,
-    pub case: u8,
+use protocol::Case;
+
+// What came of an action: it was refused; or it was accepted, and moved no message, sent one, answered a request, heard a reply of this
+// case, or lost one. Which number a refusal has is not told here: a run only counts it.
+pub enum Answer {
+    Refused,
+    Changed,
+    Sent,
+    Answered,
+    Heard(Case),
+    Lost,
 }

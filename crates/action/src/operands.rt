@@ -69,8 +69,11 @@ pub fn of_route(net: &[u8], p: u8, d: u8, q: u8) -> bool
     ensures { λ r. ⌜ r ≡ (station? (view (now (net .entry))) p && station? (view (now (net .entry))) d && not (eqb p d) && (eqb q nil || near? (view (now (net .entry))) p q)) ⌝ }
     ensures { λ r. ⌜ (r ≡ true → (p < view (now (net .entry)) .stations) × (d < view (now (net .entry)) .stations)) ⌝ }
 {
-    access::read::is_station(net, p)
-        & access::read::is_station(net, d)
-        & !(p == d)
-        & ((q == NIL) | access::read::near(net, p, q))
+    if !(access::read::is_station(net, p) & access::read::is_station(net, d) & !(p == d)) {
+        return false;
+    }
+    if q == NIL {
+        return true;
+    }
+    access::read::near(net, p, q)
 }

@@ -32,7 +32,7 @@ pub fn without(m: u16, j: u8) -> u16
     requires { ⌜ j < 16 ⌝ }
     ensures { λ r. ⌜ r ≡ mask.without m j ⌝ }
 {
-    if has(m, j) { m - (1u16 << j) } else { m }
+    m & (65535 - (1u16 << j))
 }
 
 // Whether nothing is in but numbers below n.

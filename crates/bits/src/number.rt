@@ -1,5 +1,6 @@
-// Numbers of 2 and 4 bytes at an offset of a slice.
+// Numbers of 1, 2 and 4 bytes at an offset of a slice.
 ghost use mathlib.Core.Path.{_≡_};
+ghost use mathlib.Core.List.{[], _∷_};
 ghost use Prim.Native.Nat.{_+_, _*_, _≤_, _<_};
 ghost use lib.ListN.{length};
 ghost use Rattle.bits.specs.Numbers.{bytes};
@@ -12,7 +13,8 @@ pub fn wide(x: u8) -> usize
     x as usize
 }
 
-fn join8(a: u8, b: u8) -> u16
+// Two bytes as one number.
+pub fn join8(a: u8, b: u8) -> u16
     ensures { λ r. ⌜ r ≡ a * 256 + b ⌝ }
 {
     (a as u16) * 256 + (b as u16)
@@ -36,6 +38,13 @@ pub fn get32(s: &[u8], at: usize) -> u32
     ensures { λ r. ⌜ r ≡ numberAt 4 (now (s .entry)) at ⌝ }
 {
     join16(get16(s, at), get16(s, at + 2))
+}
+
+pub fn put8(s: &mut [u8], at: usize, v: u8)
+    requires { ⌜ at < length (now s) ⌝ }
+    ensures { λ _. ⌜ now (s .exit) ≡ splice (now (s .entry)) at (v ∷ []) ⌝ }
+{
+    s[at] = v;
 }
 
 pub fn put16(s: &mut [u8], at: usize, v: u16)

@@ -1,10 +1,12 @@
 // A channel's bytes: a count, and then the messages, oldest first.
 use bits::copy::fill;
+use bits::number::join8;
 use layout::offset::MESSAGE_SIZE;
 use protocol::Message;
 ghost use mathlib.Core.Path.{_≡_};
 ghost use mathlib.Core.List.{[], _∷_, _++_};
 ghost use Prim.Native.Nat.{_+_, _*_, _≤_, _<_};
+ghost use lib.Dec.{eqb};
 ghost use lib.ListN.{length, getD};
 ghost use Rattle.bits.specs.Parts.{part, splice};
 ghost use Rattle.protocol.specs.Net.{capacity, removeAt};
@@ -107,25 +109,25 @@ pub fn message_at(ch: &[u8], i: usize) -> Message
     get_message(&ch[at..at + MESSAGE_SIZE])
 }
 
+// Whether the message is of this kind and group. The two are held against it as one number, and so in one test.
 fn is_of(m: Message, kind: u8, group: u8) -> bool
     ensures { λ r. ⌜ r ≡ isOf kind group m ⌝ }
 {
-    (m.kind == kind) & (m.group == group)
+    join8(m.kind, m.group) == join8(kind, group)
 }
 
-// How many messages of this kind and group the channel holds.
-pub fn count_of(ch: &[u8], kind: u8, group: u8) -> u8
+// Whether the channel holds no message of this kind and group.
+pub fn none_of(ch: &[u8], kind: u8, group: u8) -> bool
     requires { ⌜ IsChannel (now ch) ⌝ }
-    ensures { λ r. ⌜ (r ≡ countOf kind group (messagesOf (now (ch .entry)))) × (r ≤ capacity) ⌝ }
+    ensures { λ r. ⌜ r ≡ eqb (countOf kind group (messagesOf (now (ch .entry)))) 0 ⌝ }
 {
     let n = ch[0] as usize;
-    let mut found: u8 = 0;
     let mut i = 0;
     while i < n {
         if is_of(message_at(ch, i), kind, group) {
-            found += 1;
+            return false;
         }
         i += 1;
     }
-    found
+    true
 }

@@ -28,51 +28,31 @@ fn connected(root: u8, p: u8, e: Entry) -> bool
     (p == root) | !(e.parent == NIL)
 }
 
-// Whether station p may ask q, its route's neighbour.
+// Whether a station that waits on these may ask q: nil, or one of the sixteen.
+fn may_ask_at(waiting: u16, q: u8) -> bool
+    requires { ⌜ q ≢ nil → q < mostStations ⌝ }
+    ensures { λ r. ⌜ r ≡ (not (eqb q nil) && not (mask.has waiting q)) ⌝ }
+{
+    if q == NIL {
+        return false;
+    }
+    !bits::mask::has_at(waiting, bits::number::wide(q))
+}
+
+// Whether station p may ask q, its route's neighbour or nil.
 pub fn may_ask(root: u8, p: u8, q: u8, e: Entry) -> bool
+    requires { ⌜ q ≢ nil → q < mostStations ⌝ }
     ensures { λ r. ⌜ r ≡ (not (eqb p root) && rule.joins e && not (eqb q nil) && not (mask.has (e .waiting) q)) ⌝ }
 {
-    !(p == root) & joins(e) & !(q == NIL) & !bits::mask::has(e.waiting, q)
+    !(p == root) & joins(e) & may_ask_at(e.waiting, q)
 }
 
-// Whether the station may ask its parent.
+// Whether the station may ask its parent, a neighbour or nil.
 pub fn may_refresh(e: Entry) -> bool
+    requires { ⌜ e .parent ≢ nil → e .parent < mostStations ⌝ }
     ensures { λ r. ⌜ r ≡ (not (eqb (e .parent) nil) && not (mask.has (e .waiting) (e .parent))) ⌝ }
 {
-    !(e.parent == NIL) & !bits::mask::has(e.waiting, e.parent)
-}
-
-pub fn ticked(mut e: Entry) -> Entry
-    requires { ⌜ e .clock < largestClock ⌝ }
-    ensures { λ r. ⌜ r ≡ rule.ticked e ⌝ }
-{
-    e.clock = e.clock + 1;
-    e
-}
-
-pub fn waits_on(mut e: Entry, q: u8) -> Entry
-    requires { ⌜ q < mostStations ⌝ }
-    ensures { λ r. ⌜ r ≡ rule.waitsOn e q ⌝ }
-{
-    e.waiting = bits::mask::with(e.waiting, q);
-    e
-}
-
-pub fn stops_waiting(mut e: Entry, q: u8) -> Entry
-    requires { ⌜ q < mostStations ⌝ }
-    ensures { λ r. ⌜ r ≡ rule.stopsWaiting e q ⌝ }
-{
-    e.waiting = bits::mask::without(e.waiting, q);
-    e
-}
-
-pub fn asking(mut e: Entry, q: u8) -> Entry
-    requires { ⌜ q < mostStations ⌝ }
-    ensures { λ r. ⌜ r ≡ rule.asking e q ⌝ }
-{
-    e.tentative = q;
-    e.waiting = bits::mask::with(e.waiting, q);
-    e
+    may_ask_at(e.waiting, e.parent)
 }
 
 pub fn with_child(mut e: Entry, s: u8) -> Entry
@@ -98,20 +78,11 @@ pub fn with_member(mut e: Entry, v: u8) -> Entry
     e
 }
 
-fn leave(mut e: Entry) -> Entry
-    ensures { λ r. ⌜ r ≡ rule.leave e ⌝ }
+// A station that is not the root stays while it joins.
+pub fn stays(root: u8, p: u8, e: Entry) -> bool
+    ensures { λ r. ⌜ r ≡ (eqb p root || rule.joins e) ⌝ }
 {
-    e.parent = NIL;
-    e.tentative = NIL;
-    e
-}
-
-// A station that is not the root leaves if it does not join.
-pub fn stay_or_leave(root: u8, p: u8, e: Entry) -> Entry
-    ensures { λ r. ⌜ r ≡ rule.stayOrLeave root p e ⌝ }
-{
-    let stays = (p == root) | joins(e);
-    if stays { e } else { leave(e) }
+    (p == root) | joins(e)
 }
 
 pub fn request_of(g: u8) -> Message

@@ -1,7 +1,5 @@
 // 5. Lose: the message at a position is removed.
 use action::Answer;
-use action::answers::accepted;
-use action::answers::refused;
 use action::operands::of_position;
 ghost use Rattle.protocol.specs.Rules as rule;
 ghost use Rattle.net.specs.View.{view};
@@ -13,11 +11,11 @@ pub fn lose(net: &mut [u8], s: u8, d: u8, i: u8) -> Answer
     ensures { λ r. ⌜ ActionEnd (rule.lose (view (now (net .entry))) s d i) (now (net .entry)) r (now (net .exit)) ⌝ }
 {
     if !of_position(net, s, d, i) {
-        return refused(3);
+        return Answer::Refused;
     }
     if i >= access::read::in_channel(net, s, d) {
-        return refused(4);
+        return Answer::Refused;
     }
     access::change::take_at(net, s, d, i);
-    accepted(0, 0, 1)
+    Answer::Lost
 }

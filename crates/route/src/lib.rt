@@ -1,7 +1,5 @@
 // 9. Route: the next station from p towards d is q.
 use action::Answer;
-use action::answers::accepted;
-use action::answers::refused;
 use action::operands::of_route;
 ghost use Rattle.protocol.specs.Rules as rule;
 ghost use Rattle.net.specs.View.{view};
@@ -13,8 +11,8 @@ pub fn route(net: &mut [u8], p: u8, d: u8, q: u8) -> Answer
     ensures { λ r. ⌜ ActionEnd (rule.route (view (now (net .entry))) p d q) (now (net .entry)) r (now (net .exit)) ⌝ }
 {
     if !of_route(net, p, d, q) {
-        return refused(3);
+        return Answer::Refused;
     }
     access::change::set_route(net, p, d, q);
-    accepted(0, 0, 0)
+    Answer::Changed
 }

@@ -3,7 +3,6 @@ pub mod tally;
 
 use layout::form::Mark;
 use protocol::LONGEST_SCRIPT;
-use protocol::Replies;
 use protocol::Tally;
 ghost use mathlib.Core.Path.{_≡_};
 ghost use mathlib.Core.Bool.{true};
@@ -24,68 +23,6 @@ pub struct Answer {
     pub tally: Tally,
 }
 
-// No step yet.
-fn no_tally() -> Tally
-    ensures { λ r. ⌜ r ≡ noTally ⌝ }
-{
-    Tally {
-        accepted: 0,
-        refused: 0,
-        sent: 0,
-        delivered: 0,
-        lost: 0,
-        replies: Replies {
-            adopted: 0,
-            not_tentative: 0,
-            unconnected: 0,
-            not_greater: 0,
-        },
-    }
-}
-
-// One reply more, in the count of the case with this number.
-fn counted_case(mut r: Replies, case: u8) -> Replies
-    requires { ⌜ RepliesUpTo 4095 r ⌝ }
-    ensures { λ q. ⌜ q ≡ countCase r case ⌝ }
-{
-    match case {
-        1 => {
-            r.adopted = r.adopted + 1;
-            r
-        }
-        2 => {
-            r.not_tentative = r.not_tentative + 1;
-            r
-        }
-        3 => {
-            r.unconnected = r.unconnected + 1;
-            r
-        }
-        4 => {
-            r.not_greater = r.not_greater + 1;
-            r
-        }
-        0 | 5..=255 => r,
-    }
-}
-
-// One step more.
-fn counted(mut t: Tally, d: action::Answer) -> Tally
-    requires { ⌜ CountsUpTo 4095 t ⌝ }
-    ensures { λ r. ⌜ r ≡ counted t d ⌝ }
-{
-    if d.outcome == 0 {
-        t.accepted = t.accepted + 1;
-        t.sent = t.sent + (d.sent as u32);
-        t.delivered = t.delivered + (d.delivered as u32);
-        t.lost = t.lost + (d.lost as u32);
-        t.replies = counted_case(t.replies, d.case);
-    } else {
-        t.refused = t.refused + 1;
-    }
-    t
-}
-
 // What a script of n bytes is refused with, or 0.
 pub fn length_outcome(n: usize) -> u8
     ensures { λ r. ⌜ r ≡ lengthOutcome n ⌝ }
@@ -97,30 +34,6 @@ pub fn length_outcome(n: usize) -> u8
         return 12;
     }
     0
-}
-
-// Every step of the script, on bytes that are a net's: the shape is tested by the caller, once.
-fn run_in(net: &mut [u8], script: &[u8]) -> Tally
-    requires { ⌜ IsNet (now net) ⌝ }
-    requires { ⌜ length (now script) ≤ longestScript ⌝ }
-    ensures { λ r. ⌜ (r ≡ after (view (now (net .entry))) (now (script .entry)) (length (now (script .entry)) / 4) .tally)
-        × (now (net .exit) ≡ bytesLike (now (net .entry)) (after (view (now (net .entry))) (now (script .entry)) (length (now (script .entry)) / 4) .net)) ⌝ }
-{
-    let n = script.len() / 4;
-    let mut tally = no_tally();
-    let mut i = 0;
-    while i < n {
-        let d = step::step_in(
-            net,
-            script[4 * i],
-            script[4 * i + 1],
-            script[4 * i + 2],
-            script[4 * i + 3],
-        );
-        tally = counted(tally, d);
-        i += 1;
-    }
-    tally
 }
 
 // The outcome number of a run of bytes that are to be a net in the form of this mark; `fits` is whether the lent tally is of its size.
@@ -145,12 +58,12 @@ fn run_fitting(net: &mut [u8], m: Mark, script: &[u8], fits: bool) -> Answer
     if outcome != 0 {
         return Answer {
             outcome,
-            tally: no_tally(),
+            tally: script::no_tally(),
         };
     }
     Answer {
         outcome: 0,
-        tally: run_in(net, script),
+        tally: script::run_in(net, m, script),
     }
 }
 

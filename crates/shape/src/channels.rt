@@ -50,7 +50,11 @@ fn channel_shaped(s: &[u8], at: usize, m: u16, g: usize, d: usize) -> bool
     if CAPACITY < count {
         return false;
     }
-    ((count == 0) | bits::mask::has_at(m, d)) & messages_shaped(s, at, g, wide(count))
+    // nearly every channel is empty: then the length that is tested is known beforehand
+    if count == 0 {
+        return zeros(s, at + 1, at + CHANNEL_SIZE);
+    }
+    bits::mask::has_at(m, d) & messages_shaped(s, at, g, wide(count))
 }
 
 fn channel_row_shaped(s: &[u8], n: usize, g: usize, p: usize) -> bool

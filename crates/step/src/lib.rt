@@ -1,5 +1,8 @@
 // One step of a net in bytes.
+mod refusal;
+
 use layout::form::Mark;
+use protocol::Replies;
 ghost use mathlib.Core.Path.{_≡_};
 ghost use Rattle.access.specs.inner.Nets.{IsNet};
 ghost use Rattle.step.specs.inner.Ends.{StepEnd};
@@ -11,23 +14,23 @@ pub struct Answer {
     pub case: u8,
 }
 
-// A step of bytes that are a net's, in the form that they are in: what a run repeats.
-pub fn step_in(net: &mut [u8], action: u8, a: u8, b: u8, c: u8) -> action::Answer
-    requires { ⌜ IsNet (now net) ⌝ }
-    ensures { λ r. ⌜ StepEnd (now (net .entry)) action a b c r (now (net .exit)) ⌝ }
+// The number of the case of which one reply was heard, or 0 where none was.
+fn case_counted(r: Replies) -> u8
+    ensures { λ k. ⌜ k ≡ caseCounted r ⌝ }
 {
-    match action {
-        1 => tick::tick(net, a, b, c),
-        2 => ask::ask(net, a, b, c),
-        3 => refresh::refresh(net, a, b, c),
-        4 => deliver::deliver(net, a, b, c),
-        5 => lose::lose(net, a, b, c),
-        6 => give_up::give_up(net, a, b, c),
-        7 => drop_child::drop_child(net, a, b, c),
-        8 => member::member(net, a, b, c),
-        9 => route::route(net, a, b, c),
-        0 | 10..=255 => action::answers::refused(2),
+    if r.adopted != 0 {
+        return 1;
     }
+    if r.not_tentative != 0 {
+        return 2;
+    }
+    if r.unconnected != 0 {
+        return 3;
+    }
+    if r.not_greater != 0 {
+        return 4;
+    }
+    0
 }
 
 // A step of any bytes, which are to be a net in the form of this mark: its answer.
@@ -35,17 +38,22 @@ pub fn step_as(net: &mut [u8], m: Mark, action: u8, a: u8, b: u8, c: u8) -> Answ
     ensures { λ r. ⌜ (r ≡ stepAnswerAs m (now (net .entry)) action a b c)
         × (now (net .exit) ≡ netAfterStepAs m (now (net .entry)) action a b c) ⌝ }
 {
-    if shape::whole::shaped_as(net, m) {
-        let done = step_in(net, action, a, b, c);
-        Answer {
-            outcome: done.outcome,
-            case: done.case,
-        }
-    } else {
-        Answer {
+    if !shape::whole::shaped_as(net, m) {
+        return Answer {
             outcome: 1,
             case: 0,
-        }
+        };
+    }
+    let tally = script::run_in(net, m, &[action, a, b, c]);
+    if tally.refused != 0 {
+        return Answer {
+            outcome: refusal::refusal(net, m, action, a, b, c),
+            case: 0,
+        };
+    }
+    Answer {
+        outcome: 0,
+        case: case_counted(tally.replies),
     }
 }
 
