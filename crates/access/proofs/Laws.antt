@@ -3,17 +3,16 @@ use mathlib.Core.Path.{_≡_, refl, sym, ap, subst, _∙_}
 use mathlib.Core.Bool.{true}
 use mathlib.Core.List.{List, [], _∷_}
 use Prim.Native.Nat.{ℕ, _+_, _-_, _≤_, _<_}
-use native.Mathlib.Nat.{add-zero, add-sub-cancel-left}
+use native.Mathlib.Nat.{add-zero, add-assoc, add-sub-cancel-left}
 use native.Mathlib.Omega.{arith}
 use lib.ListN.{length}
-use Rattle.bits.specs.Numbers.{bytes}
 use Rattle.bits.specs.Parts.{part, splice}
 use Rattle.bits.proofs.Parts.{lent, back, length-part, getD-part, part-lent, part-part, put-whole, lent-back}
 use Rattle.protocol.specs.declared.Entry.{Entry}
 use Rattle.protocol.specs.declared.Message.{Message}
-use Rattle.protocol.specs.Net.{Net, capacity, longestName, setEntry, setChannel, setRoute}
-use Rattle.protocol.specs.Entries.{withParents, withClock}
+use Rattle.protocol.specs.Net.{Net, mostStations, mostGroups, capacity, longestName, setEntry, setChannel, setRoute}
 use Rattle.protocol.specs.Shaped.{Shaped}
+use Rattle.protocol.proofs.laws.Maps.{upd2-hit, set-again}
 use Rattle.channel.specs.Messages.{messagesOf, channelBytes}
 use Rattle.channel.specs.inner.Channels.{IsChannel}
 use Rattle.channel.proofs.Messages.{length-channel}
@@ -26,11 +25,10 @@ use Rattle.shape.specs.Shape.{shapedAs}
 use Rattle.shape.proofs.Nets.{long, plan-pass, marked}
 use Rattle.net.specs.View.{view}
 use Rattle.net.specs.Encode.{entryBytes, bytesAs, bytesLike}
-use Rattle.net.proofs.Records.{length-entryBytes}
 use Rattle.access.specs.inner.Nets.{IsNet, EntryMade}
 use Rattle.forms.specs.Plans.{nameOf, planIn}
 use Rattle.forms.proofs.plan.Shown.{plan-name}
-use Rattle.net.proofs.Forms.{view-channel, seen, channel-is, view-bytes, bytes-entry, bytes-field, bytes-parent, bytes-channel, bytes-route, stands}
+use Rattle.net.proofs.Forms.{view-channel, seen, channel-is, view-bytes, bytes-field, bytes-channel, bytes-route, stands}
 
 pub is-net : (m : Mark) (l : List ℕ) → shapedAs m l ≡ true → IsNet l
 unfolding view planIn
@@ -51,19 +49,40 @@ is-net-of m N l H e = let w = stands m N l H e in (is-net m l (w .0), w .1, mark
 
 -- the bytes that a change of l leaves: those of a well-shaped net again, in the same form
 pub is-net-after : (l : List ℕ) (N : Net) (l' : List ℕ) → Shaped N → l' ≡ bytesLike l N
-    → (IsNet l') × (view l' ≡ N) × ((M : Net) → bytesLike l' M ≡ bytesLike l M)
-is-net-after l N l' H e = let w = is-net-of (markOf l) N l' H e in (w .0, w .1, λ M. ap (λ (m : Mark). bytesAs m M) (w .2))
+    → (IsNet l') × (view l' ≡ N) × ((M : Net) → bytesLike l' M ≡ bytesLike l M) × (markOf l ≡ markOf l')
+is-net-after l N l' H e = let w = is-net-of (markOf l) N l' H e in (w .0, w .1, (λ M. ap (λ (m : Mark). bytesAs m M) (w .2)), sym (w .2))
 
--- after a change of l, an entry made into another
-pub made-after : (l : List ℕ) (N : Net) (l' l″ : List ℕ) → Shaped N → l' ≡ bytesLike l N → (g p : ℕ) (f : Entry → Entry) → EntryMade l' l″ g p f
-    → l″ ≡ bytesLike l (setEntry N g p (f (N .entry g p)))
-made-after l N l' l″ H e g p f made =
-    let w = is-net-after l N l' H e in
-    made ∙ ap (λ (M : Net). bytesLike l' (setEntry M g p (f (M .entry g p)))) (w .1) ∙ w .2 _
+-- ---- an entry made into another
+module _ (m : Mark) (g p : ℕ) where
+  -- by a field that was put where it stands
+  pub field-made : (l l' : List ℕ) (o : ℕ) (vs : List ℕ) (f : Entry → Entry) → ((e : Entry) → splice (entryBytes e) o vs ≡ entryBytes (f e)) → o + length vs ≤ entrySize
+      → l' ≡ splice l (entryAt m g p + o) vs → EntryMade m l l' g p f
+  field-made l l' o vs f put fits wrote = λ N few fewGroups hg hp e.
+      wrote ∙ ap (λ (x : List ℕ). splice x (entryAt m g p + o) vs) e ∙ bytes-field m N few fewGroups g p o vs (f (N .entry g p)) (put (N .entry g p)) fits hg hp
 
--- w bytes that were lent on, `&mut l[a..a + w]`, come back with these in them
-pub put-back : (w a : ℕ) (l vs : List ℕ) → length vs ≡ w → back a (a + w - a) l (splice (lent a (a + w - a) l) 0 vs) ≡ splice l a vs
-put-back w a l vs e = lent-back a (a + w - a) l 0 vs (omega arith) ∙ ap (λ (i : ℕ). splice l i vs) (add-zero a)
+  -- and then into another
+  pub made-then : (l l' l″ : List ℕ) (f h : Entry → Entry) → EntryMade m l l' g p f → EntryMade m l' l″ g p h → EntryMade m l l″ g p (λ e. h (f e))
+  unfolding setEntry
+  made-then l l' l″ f h first second = λ N few fewGroups hg hp e.
+      let x = f (N .entry g p) in
+      let there : setEntry N g p x .entry g p ≡ x = upd2-hit (N .entry) g p x in
+      second (setEntry N g p x) few fewGroups hg hp (first N few fewGroups hg hp e)
+      ∙ ap (λ (y : Entry). bytesAs m (setEntry (setEntry N g p x) g p (h y))) there
+      ∙ ap (bytesAs m) (set-again N g p x (h x))
+
+  -- after a change of l, in the form that l is in
+  pub made-after : (l : List ℕ) (N : Net) (l' l″ : List ℕ) (f : Entry → Entry) → m ≡ markOf l → N .stations ≤ mostStations → N .groups ≤ mostGroups → g < N .groups → p < N .stations
+      → l' ≡ bytesLike l N → EntryMade m l' l″ g p f → l″ ≡ bytesLike l (setEntry N g p (f (N .entry g p)))
+  made-after l N l' l″ f i few fewGroups hg hp e made =
+      made N few fewGroups hg hp (e ∙ ap (λ (k : Mark). bytesAs k N) (sym i)) ∙ ap (λ (k : Mark). bytesAs k (setEntry N g p (f (N .entry g p)))) i
+
+-- the stretch of a group, n bytes from a, was lent on, and comes back with a field put o bytes into the entry at b
+pub field-back : (m : Mark) (g p o : ℕ) (l vs : List ℕ) (a n b : ℕ) → a ≡ stretchAt m g → b ≡ inStretch m p → b + o + length vs ≤ n
+    → back a (a + n - a) l (splice (lent a (a + n - a) l) (b + o) vs) ≡ splice l (entryAt m g p + o) vs
+field-back m g p o l vs a n b starts stands fits =
+    lent-back a (a + n - a) l (b + o) vs (omega (arith, fits))
+    ∙ (λ i. splice l (starts i + (stands i + o)) vs)
+    ∙ ap (λ (i : ℕ). splice l i vs) (sym (add-assoc (stretchAt m g) (inStretch m p) o))
 
 module _ (l : List ℕ) (r : IsNet l) where
   here : bytesLike l (view l) ≡ l
@@ -108,27 +127,10 @@ module _ (l : List ℕ) (r : IsNet l) where
     pub name-is : (lent at (at + n - at) l ≡ view l .name g) × (length (lent at (at + n - at) l) ≤ longestName)
     name-is = (name-lent, rw name-lent (seen (markOf l) l (r .shape) .plan .named g h .1))
 
-  -- the stretch of group g, n bytes from a, comes back with the entry of station p written at `at`
-  pub entry-back : (g p a n at : ℕ) (e : Entry) → a ≡ stretchAt (markOf l) g → at ≡ inStretch (markOf l) p → at + entrySize ≤ n
-      → g < view l .groups → p < view l .stations
-      → back a (a + n - a) l (splice (lent a (a + n - a) l) at (entryBytes e)) ≡ bytesLike l (setEntry (view l) g p e)
-  entry-back g p a n at e i k fits hg hp =
-      lent-back a (a + n - a) l at (entryBytes e) (omega (arith, length-entryBytes e))
-      ∙ (λ j. splice (sym here j) (i j + k j) (entryBytes e))
-      ∙ sym (bytes-entry (markOf l) (view l) (r .stationsMost) (r .groupsMost) g p e hg hp)
-
-  -- a field of it put where it stands
-  pub field-back : (g p o : ℕ) (vs : List ℕ) (e : Entry) → splice (entryBytes (view l .entry g p)) o vs ≡ entryBytes e → o + length vs ≤ entrySize
-      → g < view l .groups → p < view l .stations → splice l (entryAt (markOf l) g p + o) vs ≡ bytesLike l (setEntry (view l) g p e)
-  field-back g p o vs e put fits hg hp =
-      (λ j. splice (sym here j) (entryAt (markOf l) g p + o) vs)
-      ∙ bytes-field (markOf l) (view l) (r .stationsMost) (r .groupsMost) g p o vs e put fits hg hp
-
-  pub parent-back : (g p q k : ℕ) → g < view l .groups → p < view l .stations → let at = entryAt (markOf l) g p in
-      splice (splice l (at + 0) (q ∷ [])) (at + 4) (bytes 4 k) ≡ bytesLike l (setEntry (view l) g p (withClock (withParents (view l .entry g p) q (view l .entry g p .tentative)) k))
-  parent-back g p q k hg hp =
-      let at = entryAt (markOf l) g p in
-      (λ j. splice (splice (sym here j) (at + 0) (q ∷ [])) (at + 4) (bytes 4 k)) ∙ bytes-parent (markOf l) (view l) (r .stationsMost) (r .groupsMost) g p q k hg hp
+  -- an entry of the net itself made into another
+  pub made : (m : Mark) (g p : ℕ) (l' : List ℕ) (f : Entry → Entry) → m ≡ markOf l → g < view l .groups → p < view l .stations → EntryMade m l l' g p f
+      → l' ≡ bytesLike l (setEntry (view l) g p (f (view l .entry g p)))
+  made m g p l' f i hg hp = made-after m g p l (view l) l l' f i (r .stationsMost) (r .groupsMost) hg hp (sym here)
 
   pub route-back : (p d at q : ℕ) → at ≡ routeAt p d → p < view l .stations → d < view l .stations → splice l at (q ∷ []) ≡ bytesLike l (setRoute (view l) p d q)
   route-back p d at q i hp hd = (λ j. splice (sym here j) (i j) (q ∷ [])) ∙ sym (bytes-route (markOf l) (view l) (r .stationsMost) (r .groupsMost) p d q hp hd)

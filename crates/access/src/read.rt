@@ -6,7 +6,6 @@ use layout::form::Mark;
 use layout::offset::CHANNEL_SIZE;
 use protocol::CAPACITY;
 use protocol::Entry;
-use protocol::MOST_STATIONS;
 use protocol::Message;
 use protocol::REPLY;
 use protocol::REQUEST;
@@ -57,16 +56,15 @@ pub fn is_station(net: &[u8], p: u8) -> bool
     p < stations(net)
 }
 
-// Whether p and q are stations, and neighbours: a station that there is not has none.
+// Whether p and q are stations, and neighbours: only stations are neighbours.
 pub fn near(net: &[u8], p: u8, q: u8) -> bool
     requires { ⌜ IsNet (now net) ⌝ }
     ensures { λ r. ⌜ r ≡ near? (view (now (net .entry))) p q ⌝ }
 {
-    let at = wide(p);
-    if at >= MOST_STATIONS {
+    if !is_station(net, p) {
         return false;
     }
-    bits::mask::has(layout::front::neighbours(net, at), q)
+    bits::mask::has(layout::front::neighbours(net, wide(p)), q)
 }
 
 // The name of group g.

@@ -1,17 +1,17 @@
 -- Laws of masks, for any width: each by induction on the bit's number, by the step from m to m / 2.
 --     with-hit, with-miss, without-hit, without-miss    what is in afterwards
 --     has-ext                                           two masks are equal where they hold the same
---     or-with, one-shl, and-within                      what the code's `|`, `<<` and `&` do
+--     or-with, and-without, one-shl, and-within         what the code's `|`, `&` and `<<` do
 use mathlib.Core.Path.{_≡_, refl, sym, ap, subst⁻¹, _∙_}
 use mathlib.Core.Bool.{Bool, true, false, cond}
 use mathlib.Core.Logic.{_≢_}
 use Prim.Native.Nat.{ℕ, zero, suc, _+_, _-_, _*_, _/_, _%_, _^_, _≤_, _<_, suc-le-suc, min}
-use native.Mathlib.Nat.{div-div-eq-div-mul, div-one, lt-div-mul-add}
+use native.Mathlib.Nat.{div-div-eq-div-mul, div-one, lt-div-mul-add, mod-eq-of-lt}
 use native.Mathlib.Omega.{arith}
 use borrow.Author.Tests.{eq-eqb, ne-eqb, eqb-true, eqb-false}
 use lib.Dec.{eqb}
 use lib.Arith.{lt-one}
-use lib.Bits.{bitOr, or-step, or-zero-r, bitAnd, and-step, and-shr, and-zero-l}
+use lib.Bits.{bitOr, or-step, or-zero-r, bitAnd, and-step, and-mask, and-shr, and-zero-l}
 use lib.Pow.{shl-exact, shr-shr, pow-mono}
 use Rattle.bits.specs.Masks.{has, with, without, below, within}
 use Rattle.bits.proofs.Cases.{by-bool, by-eq, by-lt, is-false, same-test, suppose, supposed, and-l, and-r, and-both}
@@ -119,19 +119,26 @@ or-with m (suc j) =
     let h : 2 ^ suc j / 2 ≡ 2 ^ j = omega arith in
     rw with-suc (or-step m (2 ^ suc j) ∙ rw (h, or-with (m / 2) j) (omega arith))
 
+-- all that is in but j
+pub and-without : (w m j : ℕ) → j < w → m < 2 ^ w → bitAnd m (2 ^ w - 1 - 2 ^ j) ≡ without m j
+and-without zero m j h l = absurd (omega arith)
+and-without (suc w) m zero h l =
+    let b : ℕ = 2 ^ suc w - 1 - 2 ^ 0 in
+    let half : b / 2 ≡ 2 ^ w - 1 = omega arith in
+    let rest : bitAnd (m / 2) (b / 2) ≡ m / 2 = rw half (and-mask (m / 2) w ∙ mod-eq-of-lt (omega arith)) in
+    rw without-zero (and-step m b ∙ rw rest (omega arith))
+and-without (suc w) m (suc j) h l =
+    let b : ℕ = 2 ^ suc w - 1 - 2 ^ suc j in
+    let fits : 2 ^ suc j ≤ 2 ^ w = pow-mono (omega arith) in
+    let half : b / 2 ≡ 2 ^ w - 1 - 2 ^ j = omega arith in
+    let rest : bitAnd (m / 2) (b / 2) ≡ without (m / 2) j = rw half (and-without w (m / 2) j (omega arith) (omega arith)) in
+    rw without-suc (and-step m b ∙ rw rest (omega arith))
+
 -- ---- what the code's `1 << j` is, at any width
 pub one-shl : (w j : ℕ) → j < w → 1 * 2 ^ j % 2 ^ w ≡ 2 ^ j
 one-shl w j h = shl-exact {a = 1} 1 j w (omega arith) (omega arith) ∙ omega arith
 
 -- ---- by cases
-pub without-in : (m j : ℕ) → has m j ≡ true → without m j ≡ m - 2 ^ j
-unfolding without
-without-in m j h = rw h
-
-pub without-out : (m j : ℕ) → has m j ≡ false → without m j ≡ m
-unfolding without
-without-out m j h = rw h
-
 pub with-keeps : (m j k : ℕ) → has m k ≡ true → has (with m j) k ≡ true
 with-keeps m j k t = by-eq k j (λ e. rw e (with-hit m j)) (λ n. with-miss m j k n ∙ t)
 

@@ -2,7 +2,7 @@
 --     removed-list, sent-list, nth-message    removing, sending and reading, said of the messages
 use mathlib.Core.Path.{_≡_, refl, ap, sym, _∙_, subst}
 use mathlib.Core.List.{List, [], _∷_, _++_, map}
-use Prim.Native.Nat.{ℕ, suc, _+_, _*_, _-_, _^_, _≤_, _<_}
+use Prim.Native.Nat.{ℕ, zero, suc, _+_, _-_, _*_, _^_, _≤_, _<_}
 use native.Mathlib.Nat.{add-sub-cancel-left}
 use native.Mathlib.Numerals.{add-one}
 use native.Mathlib.Omega.{arith}
@@ -82,3 +82,9 @@ module _ (b : List ℕ) (h : IsChannel b) where
 pub count-turn : (k g : ℕ) (ms : List Message) (i : ℕ) → i < length ms
     → countOf k g (take (i + 1) ms) ≡ countOf k g (take i ms) + bit (isOf k g (getD ms i noMessage))
 count-turn k g ms i h = rw (add-one, take-suc ms i noMessage h) (count-snoc k g (take i ms) (getD ms i noMessage))
+
+pub count-take : (k g i : ℕ) (ms : List Message) → countOf k g (take i ms) ≤ countOf k g ms
+unfolding countOf
+count-take k g zero ms = omega arith
+count-take k g (suc i) [] = omega arith
+count-take k g (suc i) (m ∷ ms) = omega (arith, count-take k g i ms)

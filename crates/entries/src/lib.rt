@@ -6,12 +6,13 @@ use protocol::NIL;
 use protocol::REPLY;
 use protocol::REQUEST;
 ghost use mathlib.Core.Path.{_≡_};
-ghost use mathlib.Core.Bool.{not, _&&_};
+ghost use mathlib.Core.Logic.{_≢_};
+ghost use mathlib.Core.Bool.{not, _&&_, _||_};
 ghost use Prim.Native.Nat.{_<_};
 ghost use lib.Dec.{eqb};
 ghost use Rattle.bits.specs.Masks as mask;
 ghost use Rattle.bits.specs.Sums.{bit};
-ghost use Rattle.protocol.specs.Net.{nil, mostStations, largestClock};
+ghost use Rattle.protocol.specs.Net.{nil, mostStations};
 ghost use Rattle.protocol.specs.declared.Case.the-variants.{Adopted};
 ghost use Rattle.protocol.specs.Cases as reply;
 ghost use Rattle.protocol.specs.Entries as rule;
@@ -30,7 +31,7 @@ fn connected(root: u8, p: u8, e: Entry) -> bool
 
 // Whether a station that waits on these may ask q: nil, or one of the sixteen.
 fn may_ask_at(waiting: u16, q: u8) -> bool
-    requires { ⌜ q ≢ nil → q < mostStations ⌝ }
+    requires { ⌜ (q ≢ nil → q < mostStations) ⌝ }
     ensures { λ r. ⌜ r ≡ (not (eqb q nil) && not (mask.has waiting q)) ⌝ }
 {
     if q == NIL {
@@ -41,7 +42,7 @@ fn may_ask_at(waiting: u16, q: u8) -> bool
 
 // Whether station p may ask q, its route's neighbour or nil.
 pub fn may_ask(root: u8, p: u8, q: u8, e: Entry) -> bool
-    requires { ⌜ q ≢ nil → q < mostStations ⌝ }
+    requires { ⌜ (q ≢ nil → q < mostStations) ⌝ }
     ensures { λ r. ⌜ r ≡ (not (eqb p root) && rule.joins e && not (eqb q nil) && not (mask.has (e .waiting) q)) ⌝ }
 {
     !(p == root) & joins(e) & may_ask_at(e.waiting, q)
@@ -49,7 +50,7 @@ pub fn may_ask(root: u8, p: u8, q: u8, e: Entry) -> bool
 
 // Whether the station may ask its parent, a neighbour or nil.
 pub fn may_refresh(e: Entry) -> bool
-    requires { ⌜ e .parent ≢ nil → e .parent < mostStations ⌝ }
+    requires { ⌜ (e .parent ≢ nil → e .parent < mostStations) ⌝ }
     ensures { λ r. ⌜ r ≡ (not (eqb (e .parent) nil) && not (mask.has (e .waiting) (e .parent))) ⌝ }
 {
     may_ask_at(e.waiting, e.parent)

@@ -12,7 +12,7 @@ use Rattle.bits.proofs.Cases.{by-lt}
 use Rattle.bits.proofs.Numbers.{length-bytes, number-bytes}
 use Rattle.bits.proofs.Parts.{getD-part, numberAt-part, bytes-numberAt, part-all, splice-append, getD-zeros}
 use Rattle.protocol.specs.declared.Entry.{Entry}
-use Rattle.protocol.specs.Entries.{withParents, withClock, withChildren, withWaiting}
+use Rattle.protocol.specs.Entries.{withParents, withMember, withClock, withChildren, withWaiting}
 use Rattle.net.specs.View.{entryOf}
 use Rattle.net.specs.Encode.{entryBytes}
 
@@ -44,6 +44,14 @@ stores l a e =
 pub parent-put : (e : Entry) (q : ℕ) → splice (entryBytes e) 0 (q ∷ []) ≡ entryBytes (withParents e q (e .tentative))
 unfolding entryBytes bytes splice
 parent-put e q = refl
+
+pub tentative-put : (e : Entry) (q : ℕ) → splice (entryBytes e) 1 (q ∷ []) ≡ entryBytes (withParents e (e .parent) q)
+unfolding entryBytes bytes splice
+tentative-put e q = refl
+
+pub member-put : (e : Entry) (v : ℕ) → splice (entryBytes e) 2 (v ∷ []) ≡ entryBytes (withMember e v)
+unfolding entryBytes bytes splice
+member-put e v = refl
 
 pub clock-put : (e : Entry) (k : ℕ) → splice (entryBytes e) 4 (bytes 4 k) ≡ entryBytes (withClock e k)
 unfolding entryBytes bytes splice

@@ -2,15 +2,16 @@
 use mathlib.Core.Path.{_≡_}
 use mathlib.Core.Bool.{true}
 use mathlib.Core.List.{List}
-use Prim.Native.Nat.{ℕ, _≤_}
+use Prim.Native.Nat.{ℕ, _≤_, _<_}
 use lib.ListN.{length}
 use Rattle.protocol.specs.declared.Entry.{Entry}
-use Rattle.protocol.specs.Net.{mostStations, mostGroups, setEntry}
+use Rattle.protocol.specs.Net.{Net, mostStations, mostGroups, setEntry}
 use Rattle.layout.specs.Layout.{netLength, stations, groups}
+use Rattle.layout.specs.declared.form.Mark.{Mark}
 use Rattle.layout.specs.Marks.{markOf}
 use Rattle.shape.specs.Shape.{shapedAs}
 use Rattle.net.specs.View.{view}
-use Rattle.net.specs.Encode.{bytesLike}
+use Rattle.net.specs.Encode.{bytesAs}
 
 -- the first field says it all; the others follow from it, and are here for the callers' arithmetic
 pub record IsNet (l : List ℕ) : Type 0 where
@@ -21,6 +22,7 @@ pub record IsNet (l : List ℕ) : Type 0 where
   pub stationsMost : view l .stations ≤ mostStations
   pub groupsMost : view l .groups ≤ mostGroups
 
--- l' is l with the entry of group g and station p made into another
-abbrev pub EntryMade : (l l' : List ℕ) → (g p : ℕ) → (Entry → Entry) → Type 0
-EntryMade l l' g p f = l' ≡ bytesLike l (setEntry (view l) g p (f (view l .entry g p)))
+-- of whatever net l are the bytes, in the form of m, l' are those of it with the entry of group g and station p made into another
+abbrev pub EntryMade : (m : Mark) (l l' : List ℕ) → (g p : ℕ) → (Entry → Entry) → Type 0
+EntryMade m l l' g p f = (N : Net) → N .stations ≤ mostStations → N .groups ≤ mostGroups → g < N .groups → p < N .stations → l ≡ bytesAs m N
+    → l' ≡ bytesAs m (setEntry N g p (f (N .entry g p)))

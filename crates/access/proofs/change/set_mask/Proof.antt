@@ -1,19 +1,24 @@
-use mathlib.Core.Path.{_∙_, ap}
+use mathlib.Core.Path.{ap, _∙_}
+use mathlib.Core.List.{List}
 use Prim.Native.Nat.{ℕ, _+_, _-_}
+use native.Mathlib.Omega.{arith}
 use Rattle.bits.specs.Numbers.{bytes}
-use Rattle.bits.specs.Parts.{splice}
 use Rattle.bits.proofs.Numbers.{length-bytes}
 use Rattle.bits.proofs.Parts.{back}
-use Rattle.access.proofs.Laws.{put-back}
+use Rattle.layout.specs.Marks.{stretchAt, inStretch}
+use Rattle.access.proofs.Laws.{field-back}
 use borrow.Author.Needs.{needs}
 use Rattle.access.proofs.change.set_mask.Statement.{statement}
 use Rattle.access.proofs.change.set_mask.Tie as tie
 
-entry-place-requires : tie.Need-entry-place-requires
-entry-place-requires c κs = search needs
+wide-requires : tie.Need-wide-requires
+wide-requires c κs = search needs
 
-add-at : tie.Need-add-at
-add-at c = search needs
+stretch-at-requires : tie.Need-stretch-at-requires
+stretch-at-requires c κs = search needs
+
+stretch-size-requires : tie.Need-stretch-size-requires
+stretch-size-requires c κs = search needs
 
 add-put16 : tie.Need-add-put16
 add-put16 c = search needs
@@ -27,31 +32,49 @@ part-put16-start c = search needs
 part-put16-end : tie.Need-part-put16-end
 part-put16-end c = search needs
 
+wide-requires-2 : tie.Need-wide-requires-2
+wide-requires-2 c κs = search needs
+
+in-stretch-requires : tie.Need-in-stretch-requires
+in-stretch-requires c κs = search needs
+
+add-put16-2 : tie.Need-add-put16-2
+add-put16-2 c = search needs
+
 put16-requires : tie.Need-put16-requires
-put16-requires c κs = search needs
+put16-requires c κs = omega (arith, c .before .before .before .stretch-size .ensures, c .in-stretch .ensures .1)
 
 same-length : tie.Need-same-length
 same-length c = search needs
 
 returns : tie.Need-returns
-returns c = let x = c .before .before .before .before in
-    let a = x .before .before .before .args in
-    let l = a .net .now in
-    let at = x .entry-place .result + a .o in
-    ap (back at (at + 2 - at) l) (c .before .before .put16 .ensures)
-    ∙ put-back 2 at l (bytes 2 (a .mask)) (length-bytes 2 (a .mask))
-    ∙ ap (λ (i : ℕ). splice l (i + a .o) (bytes 2 (a .mask))) (x .entry-place .ensures .0)
+returns c = let w = c .before .before in
+    let k = w .before in
+    let z = k .before .before .before in
+    let x = z .before in
+    let s = x .before .before .before in
+    let l = s .args .net .now in
+    let a = x .stretch-at .result in
+    let n = z .stretch-size .result in
+    let starts = x .stretch-at .ensures .0 ∙ ap (stretchAt (s .args .m)) (x .before .wide .ensures .0) in
+    let stands = k .in-stretch .ensures .0 ∙ ap (inStretch (s .args .m)) (k .before .wide2 .ensures .0) in
+    ap (λ (ys : List ℕ). back a (a + n - a) l ys) (w .put16 .ensures)
+    ∙ field-back (s .args .m) (s .args .g) (s .args .p) (s .args .o) l (bytes 2 (s .args .mask)) a n _ starts stands (omega (arith, z .stretch-size .ensures, k .in-stretch .ensures .1, length-bytes 2 (s .args .mask)))
 
 pub set-mask-spec : {M : Type 1} → statement M
 set-mask-spec =
     tie.close
     (tie.spec
-    entry-place-requires
-    add-at
+    wide-requires
+    stretch-at-requires
+    stretch-size-requires
     add-put16
     sub-put16
     part-put16-start
     part-put16-end
+    wide-requires-2
+    in-stretch-requires
+    add-put16-2
     put16-requires
     same-length
     returns)

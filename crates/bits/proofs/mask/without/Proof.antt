@@ -1,24 +1,20 @@
-use mathlib.Core.Path.{sym, ap, _∙_}
+use mathlib.Core.Path.{ap, _∙_}
 use Prim.Native.Nat.{ℕ, _-_}
-use Rattle.bits.proofs.Masks.{one-shl, has-le, without-in, without-out}
+use native.Mathlib.Omega.{arith}
+use lib.Bits.{bitAnd}
+use Rattle.bits.proofs.Masks.{one-shl, and-without}
 use borrow.Author.Needs.{needs}
 use Rattle.bits.proofs.mask.without.Statement.{statement}
 use Rattle.bits.proofs.mask.without.Tie as tie
-
-has-requires : tie.Need-has-requires
-has-requires c κs = search needs
 
 shl-result : tie.Need-shl-result
 shl-result c = search needs
 
 sub-result : tie.Need-sub-result
-sub-result c = let a = c .before .before .args in rw (one-shl 16 (a .j) (search needs)) (has-le (a .m) (a .j) (sym (c .before .has .ensures) ∙ c .if1 .taken))
+sub-result c = search needs
 
 returns : tie.Need-returns
-returns c = let a = c .before .before .args in ap (λ (x : ℕ). a .m - x) (one-shl 16 (a .j) (search needs)) ∙ sym (without-in (a .m) (a .j) (sym (c .before .has .ensures) ∙ c .if1 .taken))
-
-returns-2 : tie.Need-returns-2
-returns-2 c = let a = c .before .before .args in sym (without-out (a .m) (a .j) (sym (c .before .has .ensures) ∙ c .if1 .left))
+returns c = let a = c .args in ap (λ (x : ℕ). bitAnd (a .m) (65535 - x)) (one-shl 16 (a .j) (search needs)) ∙ and-without 16 (a .m) (a .j) (search needs) (omega arith)
 
 pub without-spec : {M : Type 1} → statement M
-without-spec = tie.close (tie.spec has-requires shl-result sub-result returns returns-2)
+without-spec = tie.close (tie.spec shl-result sub-result returns)
