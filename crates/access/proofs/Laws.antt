@@ -16,7 +16,7 @@ use Rattle.protocol.proofs.laws.Maps.{upd2-hit, set-again}
 use Rattle.channel.specs.Messages.{messagesOf, channelBytes}
 use Rattle.channel.specs.inner.Channels.{IsChannel}
 use Rattle.channel.proofs.Messages.{length-channel}
-use Rattle.layout.specs.Layout.{byte, stations, groups, groupAt, nameLength, routeAt, entrySize, channelAt}
+use Rattle.layout.specs.Layout.{byte, stations, groups, groupAt, nameLength, routeAt, entrySize, channelAt, netLength}
 use Rattle.layout.specs.declared.form.Mark.{Mark}
 use Rattle.layout.specs.Marks.{markOf, stretchAt, inStretch, entryAt}
 use Rattle.plan.specs.Planned.{netHeader}
@@ -126,6 +126,10 @@ module _ (l : List ℕ) (r : IsNet l) where
 
     pub name-is : (lent at (at + n - at) l ≡ view l .name g) × (length (lent at (at + n - at) l) ≤ longestName)
     name-is = (name-lent, rw name-lent (seen (markOf l) l (r .shape) .plan .named g h .1))
+
+  -- where its entries stand there is room for them
+  pub own : (g p : ℕ) → g < view l .groups → p < view l .stations → (length l ≡ netLength) × (g < mostGroups) × (p < mostStations)
+  own g p hg hp = (r .long, omega (arith, hg, r .groupsMost), omega (arith, hp, r .stationsMost))
 
   -- an entry of the net itself made into another
   pub made : (m : Mark) (g p : ℕ) (l' : List ℕ) (f : Entry → Entry) → m ≡ markOf l → g < view l .groups → p < view l .stations → EntryMade m l l' g p f

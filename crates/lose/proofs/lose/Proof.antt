@@ -34,29 +34,23 @@ enabled y = ap (ltb (y .before .before .before .before .before .before .args .i)
 of-position-requires : tie.Need-of-position-requires
 of-position-requires c κs = search needs
 
-refused-requires : tie.Need-refused-requires
-refused-requires c κs = search needs
-
 same-length : tie.Need-same-length
 same-length c = search needs
 
 returns : tie.Need-returns
 unfolding rule.lose
-returns c = let x = c .before in ends-3 _ _ (c .refused .ensures) (sym (x .before .of-position .ensures .0) ∙ not-true _ (x .if1 .taken))
+returns c = ends-3 _ _ (sym (c .before .of-position .ensures .0) ∙ not-true _ (c .if1 .taken))
 
 in-channel-requires : tie.Need-in-channel-requires
 in-channel-requires c κs = let x = c .before in (x .before .before .before .before .pre, in-range x)
-
-refused-requires-2 : tie.Need-refused-requires-2
-refused-requires-2 c κs = search needs
 
 same-length-2 : tie.Need-same-length-2
 same-length-2 c = search needs
 
 returns-2 : tie.Need-returns-2
 unfolding rule.lose
-returns-2 c = let y = c .before .before in
-    ends-4 _ _ (c .refused2 .ensures) (operands (y .before .before)) (enabled y ∙ le-ltb _ _ (c .before .if2 .taken))
+returns-2 c = let y = c .before in
+    ends-4 _ _ (operands (y .before .before)) (enabled y ∙ le-ltb _ _ (c .if2 .taken))
 
 take-at-requires : tie.Need-take-at-requires
 take-at-requires c κs = let y = c .before .before in
@@ -64,31 +58,25 @@ take-at-requires c κs = let y = c .before .before in
     let w = in-range (y .before .before) in
     (s .pre, (w .0, w .1, subst (λ (n : ℕ). s .args .i < n) (y .in-channel .ensures) (c .before .if2 .left)))
 
-accepted-requires : tie.Need-accepted-requires
-accepted-requires c κs = search needs
-
 same-length-3 : tie.Need-same-length-3
 same-length-3 c = search needs
 
 returns-3 : tie.Need-returns-3
 unfolding rule.lose
-returns-3 c = let z = c .before .before .before in
+returns-3 c = let z = c .before .before in
     let y = z .before .before .before in
-    ends-0 _ _ (c .accepted .ensures) (record { operands = operands (y .before .before); enabled = enabled y ∙ lt-ltb _ _ (z .before .before .if2 .left); clockRoom = refl; sendRoom = refl }) (z .take-at .ensures)
+    ends-0 _ _ refl refl (record { operands = operands (y .before .before); enabled = enabled y ∙ lt-ltb _ _ (z .before .before .if2 .left); clockRoom = refl; sendRoom = refl }) (z .take-at .ensures)
 
 pub lose-spec : {M : Type 1} → statement M
 lose-spec =
     tie.close
     (tie.spec
     of-position-requires
-    refused-requires
     same-length
     returns
     in-channel-requires
-    refused-requires-2
     same-length-2
     returns-2
     take-at-requires
-    accepted-requires
     same-length-3
     returns-3)

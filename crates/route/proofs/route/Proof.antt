@@ -16,39 +16,31 @@ operands x = sym (x .before .of-route .ensures .0) ∙ not-false _ (x .if1 .left
 of-route-requires : tie.Need-of-route-requires
 of-route-requires c κs = search needs
 
-refused-requires : tie.Need-refused-requires
-refused-requires c κs = search needs
-
 same-length : tie.Need-same-length
 same-length c = search needs
 
 returns : tie.Need-returns
 unfolding rule.route
-returns c = let x = c .before in ends-3 _ _ (c .refused .ensures) (sym (x .before .of-route .ensures .0) ∙ not-true _ (x .if1 .taken))
+returns c = ends-3 _ _ (sym (c .before .of-route .ensures .0) ∙ not-true _ (c .if1 .taken))
 
 set-route-requires : tie.Need-set-route-requires
 set-route-requires c κs = let x = c .before in (x .before .before .before .before .pre, x .before .of-route .ensures .1 (not-false _ (x .if1 .left)))
-
-accepted-requires : tie.Need-accepted-requires
-accepted-requires c κs = search needs
 
 same-length-2 : tie.Need-same-length-2
 same-length-2 c = search needs
 
 returns-2 : tie.Need-returns-2
 unfolding rule.route
-returns-2 c = let y = c .before .before .before in
-    ends-0 _ _ (c .accepted .ensures) (record { operands = operands (y .before .before); enabled = refl; clockRoom = refl; sendRoom = refl }) (y .set-route .ensures)
+returns-2 c = let y = c .before .before in
+    ends-0 _ _ refl refl (record { operands = operands (y .before .before); enabled = refl; clockRoom = refl; sendRoom = refl }) (y .set-route .ensures)
 
 pub route-spec : {M : Type 1} → statement M
 route-spec =
     tie.close
     (tie.spec
     of-route-requires
-    refused-requires
     same-length
     returns
     set-route-requires
-    accepted-requires
     same-length-2
     returns-2)
