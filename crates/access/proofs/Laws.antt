@@ -12,7 +12,7 @@ use Rattle.protocol.specs.declared.Entry.{Entry}
 use Rattle.protocol.specs.declared.Message.{Message}
 use Rattle.protocol.specs.Net.{Net, mostStations, mostGroups, capacity, longestName, setEntry, setChannel, setRoute}
 use Rattle.protocol.specs.Shaped.{Shaped}
-use Rattle.protocol.proofs.laws.Maps.{upd2-hit, set-again}
+use Rattle.protocol.proofs.laws.Maps.{upd2-hit, set-again, set-same}
 use Rattle.channel.specs.Messages.{messagesOf, channelBytes}
 use Rattle.channel.specs.inner.Channels.{IsChannel}
 use Rattle.channel.proofs.Messages.{length-channel}
@@ -59,6 +59,10 @@ module _ (m : Mark) (g p : ℕ) where
       → l' ≡ splice l (entryAt m g p + o) vs → EntryMade m l l' g p f
   field-made l l' o vs f put fits wrote = λ N few fewGroups hg hp e.
       wrote ∙ ap (λ (x : List ℕ). splice x (entryAt m g p + o) vs) e ∙ bytes-field m N few fewGroups g p o vs (f (N .entry g p)) (put (N .entry g p)) fits hg hp
+
+  -- left as it is
+  pub made-same : (l : List ℕ) → EntryMade m l l g p (λ e. e)
+  made-same l = λ N few fewGroups hg hp e. e ∙ ap (bytesAs m) (sym (set-same N g p))
 
   -- and then into another
   pub made-then : (l l' l″ : List ℕ) (f h : Entry → Entry) → EntryMade m l l' g p f → EntryMade m l' l″ g p h → EntryMade m l l″ g p (λ e. h (f e))

@@ -1,4 +1,5 @@
-// What the nine actions have in common: their operands and their answer.
+// What the nine actions have in common: their operands, a station that leaves, and their answer.
+pub mod leave;
 pub mod operands;
 
 use protocol::Case;

@@ -7,13 +7,15 @@ use protocol::Message;
 use protocol::REQUEST;
 ghost use mathlib.Core.Path.{_≡_};
 ghost use mathlib.Core.Bool.{true};
+ghost use Prim.Native.Nat.{_<_};
 ghost use Rattle.protocol.specs.Net.{Net, takeAt};
+ghost use Rattle.protocol.specs.Entries.{adopting};
 ghost use Rattle.protocol.specs.Rules.{oldest, room?, answered, heard, caseAt};
 ghost use Rattle.protocol.specs.Rules as rule;
 ghost use Rattle.layout.specs.Marks.{markOf};
 ghost use Rattle.net.specs.View.{view};
 ghost use Rattle.net.specs.Encode.{bytesLike};
-ghost use Rattle.access.specs.inner.Nets.{IsNet};
+ghost use Rattle.access.specs.inner.Nets.{IsNet, EntryMade};
 ghost use Rattle.action.specs.inner.Ends.{ActionEnd};
 ghost use Rattle.deliver.specs.inner.MayDeliver.{MayDeliver};
 
@@ -32,22 +34,27 @@ fn answer(net: &mut [u8], m: Mark, s: u8, d: u8, g: u8)
     access::change::send(net, d, s, entries::reply_of(g, root, d, e));
 }
 
-// The sender of a reply is adopted: it is the parent from now on, with the clock of its reply. That is read again where it stands, so that
-// the compiler moves it as one number.
+// The sender of a reply is adopted: the clock of its reply is the receiver's from now on, and it is the parent. The reply is read again
+// where it stands, so that the compiler moves its clock as one number.
 fn adopt(net: &mut [u8], m: Mark, s: u8, d: u8, g: u8)
+    requires { ⌜ IsNet (now net) ⌝ }
+    requires { ⌜ MayDeliver (view (now net)) s d ⌝ }
+    requires { ⌜ g < view (now net) .groups ⌝ }
+    ensures { λ _. ⌜ EntryMade m (now (net .entry)) (now (net .exit)) g d (λ e. adopting e s (oldest (view (now (net .entry)) .channel) s d)) ⌝ }
 {
+    let reply = access::read::oldest(net, s, d);
+    access::change::set_clock(net, m, g, d, reply.clock);
     access::change::set_parent(net, m, g, d, s);
-    access::change::set_clock(net, m, g, d, access::read::oldest(net, s, d).clock);
 }
 
-// A reply is heard: the receiver waits no longer, and may adopt the sender. Which case holds is the answer.
-fn hear(net: &mut [u8], m: Mark, s: u8, d: u8, reply: Message) -> Case
+// What a reply makes of the receiver's entry: it waits no longer, and may adopt the sender. Which case holds is the answer.
+fn listen(net: &mut [u8], m: Mark, s: u8, d: u8, reply: Message) -> Case
     requires { ⌜ IsNet (now net) ⌝ }
     requires { ⌜ m ≡ markOf (now net) ⌝ }
     requires { ⌜ MayDeliver (view (now net)) s d ⌝ }
     requires { ⌜ reply ≡ oldest (view (now net) .channel) s d ⌝ }
     ensures { λ r. ⌜ (r ≡ caseAt (view (now (net .entry))) s d reply)
-        × (now (net .exit) ≡ bytesLike (now (net .entry)) (heard (takeAt (view (now (net .entry))) s d 0) s d reply)) ⌝ }
+        × (now (net .exit) ≡ bytesLike (now (net .entry)) (heard (view (now (net .entry))) s d reply)) ⌝ }
 {
     let g = reply.group;
     let e = access::read::entry_as(net, m, g, d);
@@ -56,6 +63,19 @@ fn hear(net: &mut [u8], m: Mark, s: u8, d: u8, reply: Message) -> Case
     if entries::is_adopted(case) {
         adopt(net, m, s, d, g);
     }
+    case
+}
+
+// A reply is heard, and is gone then.
+fn hear(net: &mut [u8], m: Mark, s: u8, d: u8, reply: Message) -> Case
+    requires { ⌜ IsNet (now net) ⌝ }
+    requires { ⌜ m ≡ markOf (now net) ⌝ }
+    requires { ⌜ MayDeliver (view (now net)) s d ⌝ }
+    requires { ⌜ reply ≡ oldest (view (now net) .channel) s d ⌝ }
+    ensures { λ r. ⌜ (r ≡ caseAt (view (now (net .entry))) s d reply)
+        × (now (net .exit) ≡ bytesLike (now (net .entry)) (heard (takeAt (view (now (net .entry))) s d 0) s d reply)) ⌝ }
+{
+    let case = listen(net, m, s, d, reply);
     access::change::take_at(net, s, d, 0);
     case
 }

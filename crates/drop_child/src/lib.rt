@@ -2,7 +2,6 @@
 use action::Answer;
 use action::operands::of_pair;
 use layout::form::Mark;
-use protocol::NIL;
 ghost use mathlib.Core.Path.{_≡_};
 ghost use Prim.Native.Nat.{_<_};
 ghost use Rattle.protocol.specs.Net.{Net};
@@ -40,9 +39,6 @@ pub fn drop_child(net: &mut [u8], m: Mark, g: u8, p: u8, x: u8) -> Answer
     let root = access::read::root_of(net, g);
     let e = entries::without_child(access::read::entry_as(net, m, g, p), x);
     access::change::set_children(net, m, g, p, e.children);
-    if !entries::stays(root, p, e) {
-        access::change::set_parent(net, m, g, p, NIL);
-        access::change::set_tentative(net, m, g, p, NIL);
-    }
+    action::leave::stay_or_leave(net, m, g, p, root, e);
     Answer::Changed
 }

@@ -2,7 +2,6 @@
 use action::Answer;
 use action::operands::of_flag;
 use layout::form::Mark;
-use protocol::NIL;
 ghost use mathlib.Core.Path.{_≡_};
 ghost use Rattle.protocol.specs.Rules as rule;
 ghost use Rattle.layout.specs.Marks.{markOf};
@@ -21,9 +20,6 @@ pub fn member(net: &mut [u8], m: Mark, g: u8, p: u8, v: u8) -> Answer
     let root = access::read::root_of(net, g);
     let e = entries::with_member(access::read::entry_as(net, m, g, p), v);
     access::change::set_member(net, m, g, p, v);
-    if !entries::stays(root, p, e) {
-        access::change::set_parent(net, m, g, p, NIL);
-        access::change::set_tentative(net, m, g, p, NIL);
-    }
+    action::leave::stay_or_leave(net, m, g, p, root, e);
     Answer::Changed
 }

@@ -1,35 +1,47 @@
-use Rattle.protocol.specs.declared.Entry.{Entry}
-use Rattle.bits.specs.Masks.{has}
-use lib.Dec.{eqb}
-use Prim.Native.Nat.{ℕ}
+use mathlib.Core.Path.{_≡_, refl, sym, ap, _∙_}
 use mathlib.Core.Bool.{not, _&&_}
-use mathlib.Core.Path.{ap, ap₂, _∙_}
+use lib.Dec.{eqb}
+use borrow.Author.Tests.{not-true, not-false}
+use Rattle.bits.specs.Masks.{has}
 use Rattle.protocol.specs.Rules as rule
+use Rattle.net.specs.View.{view}
 use borrow.Author.Needs.{needs}
 use Rattle.drop_child.proofs.may_drop.Statement.{statement}
 use Rattle.drop_child.proofs.may_drop.Tie as tie
 
-entry-of-requires : tie.Need-entry-of-requires
-entry-of-requires c κs = search needs
+-- the tests that are made, of the net's entries
+elsewhere : (x : tie.After-has-at) → let a = x .before .before .before .before .before .args in
+    (x .has-at .result && not (eqb (x .before .before .entry-as2 .result .parent) (a .p)))
+    ≡ (has (view (a .net .now) .entry (a .g) (a .p) .children) (a .x) && not (eqb (view (a .net .now) .entry (a .g) (a .x) .parent) (a .p)))
+elsewhere x = let a = x .before .before .before .before .before .args in
+    let e = x .before .before .before .entry-as .ensures in
+    let child = x .has-at .ensures ∙ (λ i. has (e i .children) (x .before .wide .ensures .0 i)) in
+    λ i. child i && not (eqb (x .before .before .entry-as2 .ensures i .parent) (a .p))
 
-entry-of-requires-2 : tie.Need-entry-of-requires-2
-entry-of-requires-2 c κs = search needs
+entry-as-requires : tie.Need-entry-as-requires
+entry-as-requires c κs = search needs
 
-has-requires : tie.Need-has-requires
-has-requires c κs = search needs
+entry-as-requires-2 : tie.Need-entry-as-requires-2
+entry-as-requires-2 c κs = search needs
 
-under-way-requires : tie.Need-under-way-requires
-under-way-requires c κs = search needs
+wide-requires : tie.Need-wide-requires
+wide-requires c κs = search needs
+
+has-at-requires : tie.Need-has-at-requires
+has-at-requires c κs = search needs
 
 returns : tie.Need-returns
 unfolding rule.dropChild
-returns c = let a = c .before .before .before .before .before .before .args in
-    let child = c .before .before .has .ensures ∙ ap (λ (e : Entry). has (e .children) (a .x)) (c .before .before .before .before .entry-of .ensures) in
-    let elsewhere = ap (λ (e : Entry). not (eqb (e .parent) (a .p))) (c .before .before .before .entry-of2 .ensures) in
-    let silent = ap (λ (n : ℕ). eqb n 0) (c .under-way .ensures) in
-    ap₂ _&&_ (ap₂ _&&_ child elsewhere) silent
+returns c = rw (sym (elsewhere (c .before .before)) ∙ not-true _ (c .if1 .taken)) refl
+
+quiet-requires : tie.Need-quiet-requires
+quiet-requires c κs = search needs
+
+returns-2 : tie.Need-returns-2
+unfolding rule.dropChild
+returns-2 c = rw (sym (elsewhere (c .before .before .before)) ∙ not-false _ (c .before .if1 .left)) (c .quiet .ensures)
 
 pub may-drop-spec : {M : Type 1} → statement M
 may-drop-spec =
     tie.close
-    (tie.spec entry-of-requires entry-of-requires-2 has-requires under-way-requires returns)
+    (tie.spec entry-as-requires entry-as-requires-2 wide-requires has-at-requires returns quiet-requires returns-2)

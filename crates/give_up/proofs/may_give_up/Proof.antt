@@ -1,27 +1,38 @@
-use Rattle.protocol.specs.declared.Entry.{Entry}
-use Rattle.bits.specs.Masks.{has}
-use lib.Dec.{eqb}
-use Prim.Native.Nat.{ℕ}
+use mathlib.Core.Path.{_≡_, refl, sym, ap, _∙_}
 use mathlib.Core.Bool.{_&&_}
-use mathlib.Core.Path.{ap, ap₂, _∙_}
+use native.Mathlib.Omega.{arith}
+use borrow.Author.Tests.{not-true, not-false}
+use Rattle.bits.specs.Masks.{has}
+use Rattle.protocol.specs.declared.Entry.{Entry}
 use Rattle.protocol.specs.Rules as rule
+use Rattle.net.specs.View.{view}
 use borrow.Author.Needs.{needs}
 use Rattle.give_up.proofs.may_give_up.Statement.{statement}
 use Rattle.give_up.proofs.may_give_up.Tie as tie
 
-entry-of-requires : tie.Need-entry-of-requires
-entry-of-requires c κs = search needs
+-- the test that is made, of the net's entry
+waits : (x : tie.After-has-at) → let a = x .before .before .before .before .args in x .has-at .result ≡ has (view (a .net .now) .entry (a .g) (a .p) .waiting) (a .q)
+waits x = x .has-at .ensures ∙ (λ i. has (x .before .before .entry-as .ensures i .waiting) (x .before .wide .ensures .0 i))
 
-has-requires : tie.Need-has-requires
-has-requires c κs = search needs
+entry-as-requires : tie.Need-entry-as-requires
+entry-as-requires c κs = search needs
 
-under-way-requires : tie.Need-under-way-requires
-under-way-requires c κs = search needs
+wide-requires : tie.Need-wide-requires
+wide-requires c κs = search needs
+
+has-at-requires : tie.Need-has-at-requires
+has-at-requires c κs = search needs
 
 returns : tie.Need-returns
 unfolding rule.giveUp
-returns c = let q = c .before .before .before .before .args .q in
-    ap₂ _&&_ (c .before .has .ensures ∙ ap (λ (e : Entry). has (e .waiting) q) (c .before .before .entry-of .ensures)) (ap (λ (n : ℕ). eqb n 0) (c .under-way .ensures))
+returns c = rw (sym (waits (c .before)) ∙ not-true _ (c .if1 .taken)) refl
+
+quiet-requires : tie.Need-quiet-requires
+quiet-requires c κs = search needs
+
+returns-2 : tie.Need-returns-2
+unfolding rule.giveUp
+returns-2 c = rw (sym (waits (c .before .before)) ∙ not-false _ (c .before .if1 .left)) (c .quiet .ensures)
 
 pub may-give-up-spec : {M : Type 1} → statement M
-may-give-up-spec = tie.close (tie.spec entry-of-requires has-requires under-way-requires returns)
+may-give-up-spec = tie.close (tie.spec entry-as-requires wide-requires has-at-requires returns quiet-requires returns-2)

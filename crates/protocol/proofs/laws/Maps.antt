@@ -69,6 +69,11 @@ pub set-again : {E M : Type 0} (N : NetOf E M) (g p : ℕ) (e f : E) → setEntr
 unfolding setEntry
 set-again N g p e f = rw (upd2-again (N .entry) g p e f) refl
 
+-- the entry that is there put again
+pub set-same : {E M : Type 0} (N : NetOf E M) (g p : ℕ) → setEntry N g p (N .entry g p) ≡ N
+unfolding setEntry upd2
+set-same N g p = rw (upd-same (N .entry g) p (N .entry g p) refl, upd-same (N .entry) g (N .entry g) refl) refl
+
 -- a function of the changed map is the function's map, changed
 pub upd-map : {A B : Type 0} (f : A → B) (F : ℕ → A) (i : ℕ) (v : A) → (λ x. f (upd F i v x)) ≡ upd (λ x. f (F x)) i (f v)
 upd-map {A} f F i v = fun-ext (λ x. by-eq x i
