@@ -1,78 +1,104 @@
--- How a step ends.
-use mathlib.Core.Path.{_≡_, refl, sym, ap, subst, _∙_}
+-- What a step answers: by the tally of a script of one.
+use mathlib.Core.Path.{_≡_, refl, sym, ap, _∙_}
 use mathlib.Core.Logic.{_≢_}
-use mathlib.Core.Bool.{true, false, and-false}
-use mathlib.Core.List.{List}
-use Prim.Native.Nat.{ℕ, suc, _≤_}
+use mathlib.Core.Bool.{true, false, cond}
+use mathlib.Core.List.{List, [], _∷_}
+use Prim.Native.Nat.{ℕ}
 use native.Mathlib.Omega.{arith}
-use lib.Dec.{eqb, ltb}
-use borrow.Author.Tests.{eqb-true, le-ltb, lt-leb}
-use Rattle.bits.proofs.Cases.{by-bool, by-lt}
-use Rattle.protocol.specs.Net.{Net}
-use Rattle.protocol.specs.Cases.{noCase}
-use Rattle.protocol.specs.Rules.{Rule}
-use Rattle.protocol.specs.Steps.{verdict, action?, rule, outcome, step, caseHeard}
-use Rattle.net.specs.View.{view}
-use Rattle.access.specs.inner.Nets.{IsNet}
-use Rattle.action.specs.declared.Answer.{Answer}
-use Rattle.action.specs.inner.Ends.{refusedWith, actionAnswer, netAfterAction, ActionEnd}
+use lib.Dec.{eqb}
+use borrow.Author.Tests.{eq-eqb, ne-eqb, eqb-true, eqb-false}
+use Rattle.bits.proofs.Cases.{by-bool}
+use Rattle.protocol.specs.declared.Case.{Case}
+use Rattle.protocol.specs.declared.Case.the-variants.{Adopted, NotTentative, Unconnected, NotGreater}
+use Rattle.protocol.specs.declared.Replies.{Replies}
+use Rattle.protocol.specs.Net.{Net, request}
+use Rattle.protocol.specs.Cases.{caseNumber, noCase}
+use Rattle.protocol.specs.Rules.{Rule, oldest, caseAt, tick, ask, refresh, deliver, lose, giveUp, dropChild, member, route, rules}
+use Rattle.protocol.specs.Steps.{rule, outcome, step, caseHeard}
+use Rattle.protocol.specs.Runs.{noTally, caseCount, countCase, then, after}
+use Rattle.protocol.specs.Shaped.{All, none, both}
+use Rattle.protocol.proofs.steps.Steps.{each-rule}
 use Rattle.layout.specs.declared.form.Mark.{Mark}
 use Rattle.shape.specs.Shape.{shapedAs}
 use Rattle.shape.proofs.Nets.{marked}
-use Rattle.net.specs.Encode.{bytesAs}
-use Rattle.step.specs.Steps.{stepOutcomeAs, stepCaseAs, stepAnswerAs, netAfterStepAs}
-use Rattle.step.specs.declared.Answer as by-step
-use Rattle.step.specs.inner.Ends.{answerIn, StepEnd}
+use Rattle.net.specs.View.{view}
+use Rattle.net.specs.Encode.{bytesAs, bytesLike}
 use Rattle.net.proofs.Forms.{view-bytes}
+use Rattle.step.specs.Steps.{stepOutcomeAs, stepCaseAs, stepAnswerAs, netAfterStepAs}
+use Rattle.step.specs.declared.Answer.{Answer}
+use Rattle.step.specs.inner.Counted.{caseCounted}
 
-module _ (l : List ℕ) (r : IsNet l) (k a b c : ℕ) where
-  abbrev R : Rule Net
-  R = rule (view l) k a b c
+-- ---- the case is the one that has a count
+record Counted (R : Rule Net) : Type 0 where
+  pub case : caseCounted (countCase (noTally .replies) (R .traffic .case)) ≡ R .traffic .case
 
-  -- an action did what its rule says
-  takes : {d : Answer} {l' : List ℕ} → action? k ≡ true → ActionEnd R l d l' → StepEnd l k a b c d l'
-  unfolding answerIn outcome step actionAnswer netAfterAction
-  takes t D = record {
-    answer = D .answer ∙ rw t refl;
-    bytes = D .bytes ∙ by-bool (eqb (verdict R) 0) (λ e. rw (t, e) refl) (λ e. rw (t, e) (sym (view-bytes _ l (r .shape))));
-  }
+counted-none : (R : Rule Net) → R .traffic .case ≡ noCase → Counted R
+unfolding caseCounted countCase caseCount caseNumber
+counted-none R e = record { case = rw e refl }
 
-  -- a number that names no action
-  pub unknown : {d : Answer} → action? k ≡ false → d ≡ refusedWith 2 → StepEnd l k a b c d l
-  unfolding answerIn outcome step
-  unknown f e = record { answer = e ∙ rw f refl; bytes = rw f (sym (view-bytes _ l (r .shape))) }
+counted-case : (x : Case) → caseCounted (countCase (noTally .replies) (caseNumber x)) ≡ caseNumber x
+unfolding caseCounted countCase caseCount caseNumber
+counted-case Adopted = refl
+counted-case NotTentative = refl
+counted-case Unconnected = refl
+counted-case NotGreater = refl
 
--- the arm of number n: its action did what the rule of that number says
-pub arm : (n : ℕ) → action? n ≡ true → (l : List ℕ) → IsNet l → (k a b c : ℕ) → k ≡ n → {d : Answer} {l' : List ℕ} → ActionEnd (rule (view l) n a b c) l d l' → StepEnd l k a b c d l'
-arm n t l r k a b c e {d} {l'} D = subst (λ (k : ℕ). StepEnd l k a b c d l') (sym e) (takes l r n a b c t D)
+counted-delivery : (N : Net) (a b c : ℕ) → Counted (deliver N a b c)
+unfolding deliver caseCounted countCase caseCount caseNumber
+counted-delivery N a b c = record {
+  case = by-bool (eqb (oldest (N .channel) a b .kind) request)
+      (λ t. rw t refl)
+      (λ f. rw f (counted-case (caseAt N a b (oldest (N .channel) a b))));
+}
 
--- a number that is none of one to nine names no action
-past : (n k : ℕ) → n ≤ k → k ≢ n → suc n ≤ k
-past n k h e = omega arith
+all-counted : (N : Net) (a b c : ℕ) → All Counted (rules N a b c)
+unfolding rules tick ask refresh lose giveUp dropChild member route
+all-counted N a b c =
+    both (counted-none _ refl) (both (counted-none _ refl) (both (counted-none _ refl)
+    (both (counted-delivery N a b c)
+    (both (counted-none _ refl) (both (counted-none _ refl) (both (counted-none _ refl) (both (counted-none _ refl) (both (counted-none _ refl) none))))))))
 
-pub no-action : (k : ℕ) → k ≢ 1 → k ≢ 2 → k ≢ 3 → k ≢ 4 → k ≢ 5 → k ≢ 6 → k ≢ 7 → k ≢ 8 → k ≢ 9 → action? k ≡ false
-no-action k n1 n2 n3 n4 n5 n6 n7 n8 n9 = by-lt 0 k
-    (λ h. rw (lt-leb k 9 (past 9 k (past 8 k (past 7 k (past 6 k (past 5 k (past 4 k (past 3 k (past 2 k (past 1 k h n1) n2) n3) n4) n5) n6) n7) n8) n9)) (and-false (ltb 0 k)))
-    (λ z. rw (le-ltb 0 k z))
+-- ---- a script of one
+module _ (N : Net) (k a b c : ℕ) where
+  abbrev pub one : List ℕ
+  one = k ∷ a ∷ b ∷ c ∷ []
 
--- what a step tells of its action's answer, and of bytes that are no net
-abbrev pub told : Answer → by-step.Answer
-told d = record { outcome = d .outcome; case = d .case }
+  pub one-net : after N one 1 .net ≡ step N k a b c
+  unfolding after then
+  one-net = refl
 
-abbrev pub notNet : by-step.Answer
-notNet = record { outcome = 1; case = noCase }
+  pub one-refused : after N one 1 .tally .refused ≢ 0 → outcome N k a b c ≢ 0
+  unfolding after then
+  one-refused n z = n (rw (eq-eqb _ 0 z) refl)
 
--- any bytes: a net's in the form of this mark, and others
+  pub one-accepted : after N one 1 .tally .refused ≡ 0 → outcome N k a b c ≡ 0
+  unfolding after then
+  one-accepted e = by-bool (eqb (outcome N k a b c) 0) (eqb-true _ 0) (λ f. let w : 1 ≡ 0 = rw f at e in absurd (omega (arith, w)))
+
+  pub one-case : outcome N k a b c ≡ 0 → caseCounted (after N one 1 .tally .replies) ≡ caseHeard N k a b c
+  unfolding after then caseHeard
+  one-case z = rw (eq-eqb _ 0 z) (each-rule N Counted (counted-none _ refl) a b c (all-counted N a b c) k .case)
+
+-- ---- any bytes: a net's in the form of this mark, and others
 module _ (m : Mark) (l : List ℕ) (k a b c : ℕ) where
-  pub on-net : shapedAs m l ≡ true → {d : Answer} {l' : List ℕ} → StepEnd l k a b c d l'
-      → (told d ≡ stepAnswerAs m l k a b c) × (l' ≡ netAfterStepAs m l k a b c)
-  unfolding stepOutcomeAs stepCaseAs netAfterStepAs answerIn caseHeard step
-  on-net s {d} {l'} D =
-      let left : l' ≡ bytesAs m (step (view l) k a b c) = D .bytes ∙ ap (λ (m : Mark). bytesAs m (step (view l) k a b c)) (marked m l s) in
-      rw s (by-bool (eqb (outcome (view l) k a b c) 0)
-      (λ t. (ap told (D .answer) ∙ rw t (λ i. record { outcome = sym (eqb-true (outcome (view l) k a b c) 0 t) i; case = rule (view l) k a b c .traffic .case }), left ∙ rw t))
-      (λ f. (ap told (D .answer) ∙ rw f, left ∙ rw f (view-bytes m l s))))
+  abbrev O : ℕ
+  O = outcome (view l) k a b c
 
-  pub on-none : shapedAs m l ≡ false → (notNet ≡ stepAnswerAs m l k a b c) × (l ≡ netAfterStepAs m l k a b c)
+  -- what a refused step leaves
+  pub kept : shapedAs m l ≡ true → O ≢ 0 → bytesLike l (step (view l) k a b c) ≡ l
+  unfolding step
+  kept s n = rw (ne-eqb _ 0 n) (view-bytes _ l (rw (marked m l s) s))
+
+  pub on-refusal : shapedAs m l ≡ true → O ≢ 0 → {o : ℕ} {l' : List ℕ} → o ≡ O → l' ≡ l
+      → (record { outcome = o; case = 0 } ≡ stepAnswerAs m l k a b c) × (l' ≡ netAfterStepAs m l k a b c)
+  unfolding stepOutcomeAs stepCaseAs netAfterStepAs caseHeard
+  on-refusal s n e f = rw (s, ne-eqb _ 0 n) ((λ i. record { outcome = e i; case = 0 }), f)
+
+  pub on-net : shapedAs m l ≡ true → O ≡ 0 → {x : ℕ} {l' : List ℕ} → x ≡ caseHeard (view l) k a b c → l' ≡ bytesLike l (step (view l) k a b c)
+      → (record { outcome = 0; case = x } ≡ stepAnswerAs m l k a b c) × (l' ≡ netAfterStepAs m l k a b c)
+  unfolding stepOutcomeAs stepCaseAs netAfterStepAs
+  on-net s z e f = rw (s, z) ((λ i. record { outcome = 0; case = e i }), f ∙ ap (λ (n : Mark). bytesAs n (step (view l) k a b c)) (marked m l s))
+
+  pub on-none : shapedAs m l ≡ false → (record { outcome = 1; case = 0 } ≡ stepAnswerAs m l k a b c) × (l ≡ netAfterStepAs m l k a b c)
   unfolding stepOutcomeAs stepCaseAs netAfterStepAs
   on-none f = rw f (refl, refl)

@@ -1,3 +1,4 @@
+pub mod Refusals
 pub mod Ends
 pub mod After
 pub mod Hears

@@ -1,2 +1,2 @@
--- What only the inner contracts of a step and of a run speak of.
-pub mod Ends
+-- What only an inner contract speaks of.
+pub mod Counted

@@ -4,8 +4,7 @@ mod refusal;
 use layout::form::Mark;
 use protocol::Replies;
 ghost use mathlib.Core.Path.{_≡_};
-ghost use Rattle.access.specs.inner.Nets.{IsNet};
-ghost use Rattle.step.specs.inner.Ends.{StepEnd};
+ghost use Rattle.step.specs.inner.Counted.{caseCounted};
 ghost use Rattle.step.specs.Steps.{stepAnswerAs, netAfterStepAs, stepAnswer, netAfterStep};
 
 // What a step answers: its outcome number, and the number of the case of the reply that it heard, 0 where it heard none.

@@ -1,5 +1,4 @@
 use mathlib.Core.Path.{_≡_, refl, sym, ap, _∙_}
-use mathlib.Core.Logic.{_≢_}
 use mathlib.Core.Bool.{true, not, _&&_}
 use Prim.Native.Nat.{ℕ, _<_}
 use native.Mathlib.Omega.{arith}
@@ -8,7 +7,7 @@ use borrow.Author.Tests.{not-true, not-false}
 use Rattle.bits.specs.Masks.{has, with}
 use Rattle.protocol.specs.declared.Entry.{Entry}
 use Rattle.protocol.specs.declared.Message.{Message}
-use Rattle.protocol.specs.Net.{Net, nil, mostStations, setEntry, send}
+use Rattle.protocol.specs.Net.{Net, nil, setEntry, send}
 use Rattle.protocol.specs.Entries.{withParents, withWaiting, joins, asking}
 use Rattle.protocol.specs.Rules.{Rule, room?}
 use Rattle.protocol.specs.Rules as rule
@@ -20,6 +19,7 @@ use Rattle.net.proofs.Forms.{seen}
 use Rattle.access.specs.inner.Nets.{EntryMade}
 use Rattle.access.proofs.Laws.{own, made-then, made}
 use Rattle.action.proofs.Ends.{ends-3, ends-4, ends-6, ends-0}
+use Rattle.action.proofs.InRange.{route-small}
 use Rattle.action.proofs.Posts.{may-send, sent}
 use borrow.Author.Needs.{needs}
 use Rattle.ask.proofs.ask.Statement.{statement}
@@ -79,9 +79,6 @@ asked s = N s .route (s .args .p) (N s .root (s .args .g))
 
 route : (y : tie.After-route-of) → y .route-of .result ≡ asked (start (else1 y))
 route y = let s = start (else1 y) in y .route-of .ensures ∙ ap (N s .route (s .args .p)) (y .before .before .root-of .ensures .0)
-
-asked-small : (s : tie.Start) → asked s ≢ nil → asked s < mostStations
-asked-small s n = omega (arith, cable (N s) (H s) (s .args .p) (asked s) (H s .routes (s .args .p) (N s .root (s .args .g)) n .0) .1, s .pre .0 .stationsMost)
 
 -- the rule's test is the code's
 may : (y : tie.After-may-ask) → y .may-ask .result ≡ R (start (else1 (route-of (y .before)))) .enabled
@@ -147,7 +144,7 @@ entry-as-requires : tie.Need-entry-as-requires
 entry-as-requires c κs = let x = else1 (c .before) in let s = start x in (s .pre .0, (s .pre .1, in-range x .0, in-range x .1))
 
 may-ask-requires : tie.Need-may-ask-requires
-may-ask-requires c κs = let y = route-of c in rw (route y) (asked-small (start (else1 y)))
+may-ask-requires c κs = let y = route-of c in let s = start (else1 y) in rw (route y) (route-small (N s) (H s) (s .args .p) (N s .root (s .args .g)))
 
 same-length-2 : tie.Need-same-length-2
 same-length-2 c = search needs

@@ -1,5 +1,4 @@
 use mathlib.Core.Path.{_≡_, refl, sym, ap, _∙_}
-use mathlib.Core.Logic.{_≢_}
 use mathlib.Core.Bool.{true, not, _&&_}
 use Prim.Native.Nat.{ℕ, _<_}
 use native.Mathlib.Omega.{arith}
@@ -8,7 +7,7 @@ use borrow.Author.Tests.{not-true, not-false}
 use Rattle.bits.specs.Masks.{has, with}
 use Rattle.protocol.specs.declared.Entry.{Entry}
 use Rattle.protocol.specs.declared.Message.{Message}
-use Rattle.protocol.specs.Net.{Net, nil, mostStations, setEntry, send}
+use Rattle.protocol.specs.Net.{Net, nil, setEntry, send}
 use Rattle.protocol.specs.Entries.{withWaiting, waitsOn}
 use Rattle.protocol.specs.Rules.{Rule, room?}
 use Rattle.protocol.specs.Rules as rule
@@ -19,6 +18,7 @@ use Rattle.net.specs.Encode.{bytesLike}
 use Rattle.net.proofs.Forms.{seen}
 use Rattle.access.proofs.Laws.{own, made}
 use Rattle.action.proofs.Ends.{ends-3, ends-4, ends-6, ends-0}
+use Rattle.action.proofs.InRange.{parent-small}
 use Rattle.action.proofs.Posts.{may-send, sent}
 use borrow.Author.Needs.{needs}
 use Rattle.refresh.proofs.refresh.Statement.{statement}
@@ -67,9 +67,6 @@ had s = N s .entry (s .args .g) (s .args .p)
 abbrev asked : tie.Start → ℕ
 asked s = had s .parent
 
-parent-small : (s : tie.Start) → asked s ≢ nil → asked s < mostStations
-parent-small s n = omega (arith, cable (N s) (H s) (s .args .p) (asked s) (H s .entries (s .args .g) (s .args .p) .parentNear n) .1, s .pre .0 .stationsMost)
-
 -- the rule's test is the code's
 may : (y : tie.After-may-refresh) → y .may-refresh .result ≡ R (start (else1 (y .before))) .enabled
 unfolding rule.refresh
@@ -117,7 +114,7 @@ entry-as-requires : tie.Need-entry-as-requires
 entry-as-requires c κs = let x = c .before in let s = start x in (s .pre .0, (s .pre .1, in-range x .0, in-range x .1))
 
 may-refresh-requires : tie.Need-may-refresh-requires
-may-refresh-requires c κs = let s = start (else1 c) in rw (c .entry-as .ensures) (parent-small s)
+may-refresh-requires c κs = let s = start (else1 c) in rw (c .entry-as .ensures) (parent-small (N s) (H s) (s .args .g) (s .args .p))
 
 same-length-2 : tie.Need-same-length-2
 same-length-2 c = search needs

@@ -8,20 +8,20 @@ use Rattle.protocol.specs.Runs.{after}
 use Rattle.protocol.specs.Shaped.{Shaped}
 use Rattle.net.specs.View.{view}
 use Rattle.net.specs.Encode.{bytesLike}
-use Rattle.run.specs.inner.Counts.{CountsUpTo}
-use Rattle.run.proofs.CountsUpTo.{few}
-use Rattle.run.proofs.Turns.{after-is-net, turn-net, turn-tally}
-use Rattle.run.proofs.run_in.Statement.{statement}
-use Rattle.run.proofs.run_in.Tie as tie
+use Rattle.script.specs.inner.Counts.{CountsUpTo}
+use Rattle.script.proofs.CountsUpTo.{few}
+use Rattle.script.proofs.Turns.{after-is-net, turn-net, turn-tally}
+use Rattle.script.proofs.run_in.Statement.{statement}
+use Rattle.script.proofs.run_in.Tie as tie
 use Rattle.net.proofs.Forms.{seen, view-bytes}
 
 abbrev Inv-loop : tie.InvT-loop
-Inv-loop net₀ script n tally₀ i₀ net tally i =
+Inv-loop net₀ m script n tally₀ i₀ net tally i =
     let R = after (view net₀) script i in
     (i ≤ n) × (net ≡ bytesLike net₀ (R .net)) × (tally ≡ R .tally) × (length net ≡ length net₀)
 
 abbrev μ-loop : tie.MeasureT-loop
-μ-loop net₀ script n tally₀ i₀ net tally i = n - i
+μ-loop net₀ m script n tally₀ i₀ net tally i = n - i
 
 -- the places, seen from those after them
 abbrev start : tie.At-loop Inv-loop μ-loop → tie.Start Inv-loop μ-loop
@@ -81,7 +81,9 @@ shared-slice-read-step-in-4 : tie.Need-shared-slice-read-step-in-4 Inv-loop μ-l
 shared-slice-read-step-in-4 c = omega arith
 
 step-in-requires : tie.Need-step-in-requires Inv-loop μ-loop
-step-in-requires c κs = let t = turn c in after-is-net _ _ (shape t) (script t) (t .loop .i) _ (t .loop .inv .1) .0
+step-in-requires c κs = let t = turn c in
+    let w = after-is-net _ _ (shape t) (script t) (t .loop .i) _ (t .loop .inv .1) in
+    (w .0, start t .pre .1 .0 ∙ sym (w .2))
 
 counted-requires : tie.Need-counted-requires Inv-loop μ-loop
 counted-requires c κs =

@@ -15,7 +15,7 @@ use Rattle.protocol.specs.Shaped.{All, none, both}
 use Rattle.protocol.proofs.laws.Messages.{bit-le}
 use Rattle.protocol.proofs.steps.Steps.{each-rule}
 use Rattle.protocol.proofs.CaseCounts.{run-cases}
-use Rattle.run.specs.inner.Counts.{RepliesUpTo, CountsUpTo}
+use Rattle.script.specs.inner.Counts.{RepliesUpTo, CountsUpTo}
 
 -- a step sends, delivers and loses at most one message
 pub record AtMostOne (R : Rule Net) : Type 0 where

@@ -1,14 +1,15 @@
 -- One step more of a run over bytes.
-use mathlib.Core.Path.{_≡_, refl, ap, _∙_}
+use mathlib.Core.Path.{_≡_, refl, ap, subst, _∙_}
 use mathlib.Core.List.{List}
 use Prim.Native.Nat.{ℕ, _+_, _*_}
 use native.Mathlib.Numerals.{add-one}
 use lib.Dec.{eqb}
 use lib.ListN.{getD}
+use borrow.Author.Tests.{eqb-true}
 use Rattle.bits.proofs.Cases.{by-bool}
 use Rattle.protocol.specs.declared.Tally.{Tally}
 use Rattle.protocol.specs.Net.{Net}
-use Rattle.protocol.specs.Steps.{outcome, step}
+use Rattle.protocol.specs.Steps.{rule, outcome, step}
 use Rattle.protocol.specs.Runs.{RunState, then, after}
 use Rattle.protocol.specs.Shaped.{Shaped}
 use Rattle.protocol.proofs.Theorems.{run-shaped}
@@ -19,13 +20,17 @@ use Rattle.net.specs.Encode.{bytesAs}
 use Rattle.access.specs.inner.Nets.{IsNet}
 use Rattle.access.proofs.Laws.{is-net-of}
 use Rattle.action.specs.declared.Answer.{Answer}
-use Rattle.step.specs.inner.Ends.{answerIn, StepEnd}
-use Rattle.run.specs.inner.Counts.{counted}
+use Rattle.action.specs.inner.Ends.{Ended}
+use Rattle.script.specs.inner.Ends.{StepEnd}
+use Rattle.script.specs.inner.Counts.{countTraffic, counted}
+use Rattle.script.proofs.Ends.{left-bytes}
 
 -- what a step did is counted as the book counts it
-counts-step : (R : RunState) (k a b c : ℕ) → counted (R .tally) (answerIn (R .net) k a b c) ≡ then R k a b c .tally
-unfolding counted answerIn then
-counts-step R k a b c = by-bool (eqb (outcome (R .net) k a b c) 0) (λ t. rw t refl) (λ f. rw (f, f) refl)
+counts-step : (R : RunState) (k a b c : ℕ) (l l' : List ℕ) (d : Answer) → Ended (outcome (R .net) k a b c) (rule (R .net) k a b c) l d l' → counted (R .tally) d ≡ then R k a b c .tally
+unfolding counted then
+counts-step R k a b c l l' d E = rw (E .accepted) (by-bool (eqb (outcome (R .net) k a b c) 0)
+    (λ t. rw t (ap (countTraffic (R .tally)) (E .traffic (eqb-true _ 0 t))))
+    (λ f. rw f refl))
 
 module _ (m : Mark) (N : Net) (H : Shaped N) (s : List ℕ) where
   -- step i of the script: its action and its operands
@@ -48,10 +53,10 @@ module _ (m : Mark) (N : Net) (H : Shaped N) (s : List ℕ) where
   module _ (i : ℕ) (l l' : List ℕ) (d : Answer) (e : l ≡ bytesAs m (after N s i .net)) (w : StepEnd l (k i) (a i) (b i) (c i) d l') where
     pub turn-net : l' ≡ bytesAs m (after N s (i + 1) .net)
     unfolding after then
-    turn-net = let was = after-is-net i l e in rw add-one (w .bytes ∙ (λ j. bytesAs (was .2 j) (step (was .1 j) (k i) (a i) (b i) (c i))))
+    turn-net = let was = after-is-net i l e in rw add-one (left-bytes l (was .0) _ _ _ _ w ∙ (λ j. bytesAs (was .2 j) (step (was .1 j) (k i) (a i) (b i) (c i))))
 
     pub turn-tally : (t t' : Tally) → t ≡ after N s i .tally → t' ≡ counted t d → t' ≡ after N s (i + 1) .tally
     unfolding after
     turn-tally t t' was is =
-        let did = w .answer ∙ ap (λ (M : Net). answerIn M (k i) (a i) (b i) (c i)) (after-is-net i l e .1) in
-        rw add-one (is ∙ (λ j. counted (was j) (did j)) ∙ counts-step (after N s i) _ _ _ _)
+        let E = subst (λ (M : Net). Ended (outcome M (k i) (a i) (b i) (c i)) (rule M (k i) (a i) (b i) (c i)) l d l') (after-is-net i l e .1) w in
+        rw add-one (is ∙ ap (λ (x : Tally). counted x d) was ∙ counts-step (after N s i) _ _ _ _ l l' d E)

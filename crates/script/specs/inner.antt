@@ -1,0 +1,3 @@
+-- What only inner contracts speak of.
+pub mod Ends
+pub mod Counts
