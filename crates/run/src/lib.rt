@@ -6,14 +6,7 @@ use protocol::LONGEST_SCRIPT;
 use protocol::Tally;
 ghost use mathlib.Core.Path.{_≡_};
 ghost use mathlib.Core.Bool.{true};
-ghost use Prim.Native.Nat.{_/_, _≤_};
-ghost use lib.ListN.{length};
-ghost use Rattle.protocol.specs.Runs.{noTally, countCase, lengthOutcome, after};
-ghost use Rattle.protocol.specs.Net.{longestScript};
-ghost use Rattle.net.specs.View.{view};
-ghost use Rattle.net.specs.Encode.{bytesLike};
-ghost use Rattle.access.specs.inner.Nets.{IsNet};
-ghost use Rattle.run.specs.inner.Counts.{counted, RepliesUpTo, CountsUpTo};
+ghost use Rattle.protocol.specs.Runs.{lengthOutcome};
 ghost use Rattle.run.specs.Tallies.{tallyFits};
 ghost use Rattle.run.specs.Runs.{runOutcomeAs, netAfterRunAs, runAnswerAs, tallyAfterRunAs, runOutcome, netAfterRun, runAnswer, tallyAfterRun};
 

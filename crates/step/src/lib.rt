@@ -4,6 +4,7 @@ mod refusal;
 use layout::form::Mark;
 use protocol::Replies;
 ghost use mathlib.Core.Path.{_≡_};
+ghost use Rattle.protocol.specs.Cases.{noCase};
 ghost use Rattle.step.specs.inner.Counted.{caseCounted};
 ghost use Rattle.step.specs.Steps.{stepAnswerAs, netAfterStepAs, stepAnswer, netAfterStep};
 
@@ -11,6 +12,16 @@ ghost use Rattle.step.specs.Steps.{stepAnswerAs, netAfterStepAs, stepAns
 pub struct Answer {
     pub outcome: u8,
     pub case: u8,
+}
+
+// A refusal: its number, and no case.
+fn refused(k: u8) -> Answer
+    ensures { λ r. ⌜ r ≡ record { outcome = k; case = noCase } ⌝ }
+{
+    Answer {
+        outcome: k,
+        case: 0,
+    }
 }
 
 // The number of the case of which one reply was heard, or 0 where none was.
@@ -38,17 +49,11 @@ pub fn step_as(net: &mut [u8], m: Mark, action: u8, a: u8, b: u8, c: u8) -> Answ
         × (now (net .exit) ≡ netAfterStepAs m (now (net .entry)) action a b c) ⌝ }
 {
     if !shape::whole::shaped_as(net, m) {
-        return Answer {
-            outcome: 1,
-            case: 0,
-        };
+        return refused(1);
     }
     let tally = script::run_in(net, m, &[action, a, b, c]);
     if tally.refused != 0 {
-        return Answer {
-            outcome: refusal::refusal(net, m, action, a, b, c),
-            case: 0,
-        };
+        return refused(refusal::refusal(net, m, action, a, b, c));
     }
     Answer {
         outcome: 0,

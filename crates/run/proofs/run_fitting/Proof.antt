@@ -46,7 +46,7 @@ returns c =
 
 run-in-requires : tie.Need-run-in-requires
 unfolding scriptOutcome
-run-in-requires c κs = let w = passed _ _ _ _ (accepted (c .before)) in (is-net _ _ (w .shape), length-fits _ (w .script))
+run-in-requires c κs = let w = passed _ _ _ _ (accepted (c .before)) in (is-net _ _ (w .shape), (sym (marked _ _ (w .shape)), length-fits _ (w .script)))
 
 same-length-2 : tie.Need-same-length-2
 same-length-2 c = search needs
