@@ -1,6 +1,6 @@
 //! What holds the library and the bench program against the model (`rules`): random nets, plans and steps, damage,
-//! slips, and the driver; and what to measure the library by: a faster test for well shaped, two actions and the
-//! conversion.
+//! slips, and the driver; and what to measure the library by (`fast`): the test for well shaped, the steps, the runs
+//! and the conversion on the bytes themselves.
 
 pub mod breaches;
 pub mod damage;

@@ -183,11 +183,7 @@ fn one_step(form: Form, what: &str) {
     let (mut theirs, mut ours, mut plain) = (before.clone(), before.clone(), before.clone());
     let mut library =
         || assert!(round.map(|one| library_step(form, black_box(&mut theirs), black_box(one))) == RESULTS);
-    let mut rust = || {
-        let bytes = black_box(&mut ours);
-        assert!(fast::refresh(form, bytes, 0, p));
-        assert!(fast::deliver(form, bytes, p, q) == Some(0) && fast::deliver(form, bytes, q, p) == Some(NOT_GREATER));
-    };
+    let mut rust = || assert!(round.map(|one| fast::step(form, black_box(&mut ours), black_box(one))) == RESULTS);
     library();
     rust();
     let times = measure(&mut library, &mut rust);
