@@ -101,6 +101,8 @@ impl Counts {
 }
 
 impl<const SAVED: bool> View<'_, SAVED> {
+    // the loop by itself comes out faster than inside the functions above
+    #[inline(never)]
     fn run(&mut self, script: &[u8]) -> Counts {
         let mut counts = Counts::default();
         for one in script.chunks_exact(4) {
