@@ -4,7 +4,7 @@
 --     seen, view-bytes, view-injective      bytes that passed
 --     bytes-hold, hold-bytes, bytes-same    the bytes of a net
 --     stands, passes, bytes-view            the bytes of a well-shaped net
---     bytes-entry, bytes-field, bytes-channel, bytes-route    one thing put anew
+--     bytes-entry, bytes-field, bytes-parent, bytes-channel, bytes-route    one thing put anew
 use mathlib.Core.Path.{_≡_, refl, sym, ap, subst, _∙_}
 use mathlib.Core.Bool.{true}
 use mathlib.Core.List.{List, [], _∷_}
@@ -46,7 +46,7 @@ use Rattle.forms.proofs.form.Back as back
 use Rattle.forms.proofs.form.Changes as changes
 use Rattle.net.specs.View.{entryOf, view}
 use Rattle.net.specs.Encode.{entryBytes, entriesLaid, bytesAs}
-use Rattle.net.proofs.Records.{length-entryBytes}
+use Rattle.net.proofs.Records.{length-entryBytes, parent-put, clock-put}
 use Rattle.net.proofs.Codecs.{routeCodec, entryCodec, messageCodec}
 
 -- ---- the forms
@@ -211,3 +211,17 @@ module _ (m : Mark) (N : Net) (few : N .stations ≤ mostStations) (fewGroups : 
   pub bytes-route : (p d q : ℕ) → p < N .stations → d < N .stations → bytesAs m (setRoute N p d q) ≡ splice (bytesAs m N) (routeAt p d) (q ∷ [])
   unfolding bytesAs bytesIn
   bytes-route p d q hp hd = changes.bytes-route (formOf m) N few fewGroups p d q tt hp hd
+
+-- a parent and a clock: one field after the other
+pub bytes-parent : (m : Mark) (N : Net) → N .stations ≤ mostStations → N .groups ≤ mostGroups → (g p q k : ℕ) → g < N .groups → p < N .stations
+    → let e = N .entry g p in let at = entryAt m g p in
+    splice (splice (bytesAs m N) (at + 0) (q ∷ [])) (at + 4) (bytes 4 k) ≡ bytesAs m (setEntry N g p (withClock (withParents e q (e .tentative)) k))
+unfolding setEntry
+bytes-parent m N few fewGroups g p q k hg hp =
+    let e = N .entry g p in
+    let f = withParents e q (e .tentative) in
+    let there : setEntry N g p f .entry g p ≡ f = upd2-hit (N .entry) g p f in
+    let put : splice (entryBytes (setEntry N g p f .entry g p)) 4 (bytes 4 k) ≡ entryBytes (withClock f k) = rw there (clock-put f k) in
+    ap (λ (x : List ℕ). splice x (entryAt m g p + 4) (bytes 4 k)) (bytes-field m N few fewGroups g p 0 (q ∷ []) f (parent-put e q) (omega arith) hg hp)
+    ∙ bytes-field m (setEntry N g p f) few fewGroups g p 4 (bytes 4 k) (withClock f k) put (omega (arith, length-bytes 4 k)) hg hp
+    ∙ ap (bytesAs m) (set-again N g p f (withClock f k))

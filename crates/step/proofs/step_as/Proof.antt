@@ -58,11 +58,17 @@ same x = let r = run-in (x .before) in
 shaped-as-requires : tie.Need-shaped-as-requires
 shaped-as-requires c κs = search needs
 
+refused-requires : tie.Need-refused-requires
+refused-requires c κs = search needs
+
 same-length : tie.Need-same-length
 same-length c = search needs
 
 returns : tie.Need-returns
-returns c = let x = c .before in let a = x .before .before .before .args in on-none (a .m) (a .net .now) (a .action) (a .a) (a .b) (a .c) (sym (x .shaped-as .ensures) ∙ not-true _ (c .if1 .taken))
+returns c = let x = c .before in
+    let a = x .before .before .before .before .args in
+    let w = on-none (a .m) (a .net .now) (a .action) (a .a) (a .b) (a .c) (sym (x .before .shaped-as .ensures) ∙ not-true _ (x .if1 .taken)) in
+    (c .refused .ensures ∙ w .0, w .1)
 
 slice-aggregate-run-in : tie.Need-slice-aggregate-run-in
 slice-aggregate-run-in c = search needs
@@ -77,14 +83,19 @@ refusal-requires c κs = let x = c .before in
     let e = sym (same x) in
     (subst IsNet e (is-net _ _ (ok y)), (sym (marked _ _ (ok y)) ∙ ap markOf e, subst (λ (w : List ℕ). outcome (view w) (a .action) (a .a) (a .b) (a .c) ≢ 0) e (refused x)))
 
+refused-requires-2 : tie.Need-refused-requires-2
+refused-requires-2 c κs = search needs
+
 same-length-2 : tie.Need-same-length-2
 same-length-2 c = search needs
 
 returns-2 : tie.Need-returns-2
-returns-2 c = let x = c .before .before in
+returns-2 c = let told = c .before in
+    let x = told .before .before in
     let y = else1 (run-in (x .before)) in
     let a = start y .args in
-    on-refusal (a .m) (a .net .now) (a .action) (a .a) (a .b) (a .c) (ok y) (refused x) (c .refusal .ensures ∙ ap (λ (w : List ℕ). outcome (view w) (a .action) (a .a) (a .b) (a .c)) (same x)) (same x)
+    let w = on-refusal (a .m) (a .net .now) (a .action) (a .a) (a .b) (a .c) (ok y) (refused x) (told .refusal .ensures ∙ ap (λ (w : List ℕ). outcome (view w) (a .action) (a .a) (a .b) (a .c)) (same x)) (same x) in
+    (c .refused2 .ensures ∙ w .0, w .1)
 
 case-counted-requires : tie.Need-case-counted-requires
 case-counted-requires c κs = search needs
@@ -106,11 +117,13 @@ step-as-spec =
     tie.close
     (tie.spec
     shaped-as-requires
+    refused-requires
     same-length
     returns
     slice-aggregate-run-in
     run-in-requires
     refusal-requires
+    refused-requires-2
     same-length-2
     returns-2
     case-counted-requires
