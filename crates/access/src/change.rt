@@ -47,7 +47,11 @@ fn set_byte(net: &mut [u8], m: Mark, g: u8, p: u8, o: usize, v: u8)
     ensures { λ _. ⌜ now (net .exit) ≡ splice (now (net .entry)) (entryAt m g p + o) (v ∷ []) ⌝ }
 {
     let a = stretch_at(m, wide(g));
-    put8(&mut net[a..a + stretch_size(m)], in_stretch(m, wide(p)) + o, v);
+    put8(
+        &mut net[a..a + stretch_size(m)],
+        in_stretch(m, wide(p)) + o,
+        v,
+    );
 }
 
 fn set_mask(net: &mut [u8], m: Mark, g: u8, p: u8, o: usize, mask: u16)
@@ -55,7 +59,11 @@ fn set_mask(net: &mut [u8], m: Mark, g: u8, p: u8, o: usize, mask: u16)
     ensures { λ _. ⌜ now (net .exit) ≡ splice (now (net .entry)) (entryAt m g p + o) (bytes 2 mask) ⌝ }
 {
     let a = stretch_at(m, wide(g));
-    put16(&mut net[a..a + stretch_size(m)], in_stretch(m, wide(p)) + o, mask);
+    put16(
+        &mut net[a..a + stretch_size(m)],
+        in_stretch(m, wide(p)) + o,
+        mask,
+    );
 }
 
 // Another parent of station p in group g.
@@ -88,7 +96,11 @@ pub fn set_clock(net: &mut [u8], m: Mark, g: u8, p: u8, clock: u32)
     ensures { λ _. ⌜ EntryMade m (now (net .entry)) (now (net .exit)) g p (λ e. withClock e clock) ⌝ }
 {
     let a = stretch_at(m, wide(g));
-    put32(&mut net[a..a + stretch_size(m)], in_stretch(m, wide(p)) + 4, clock);
+    put32(
+        &mut net[a..a + stretch_size(m)],
+        in_stretch(m, wide(p)) + 4,
+        clock,
+    );
 }
 
 // Other children.

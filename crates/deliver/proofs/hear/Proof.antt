@@ -34,9 +34,11 @@ take-at-requires : tie.Need-take-at-requires
 unfolding heard setEntry
 take-at-requires c κs = let x = c .before .before .before in
     let s = x .before .before .before in
-    let a = s .args in
-    (after x .0, subst (λ (M : Net). (a .s < M .stations) × (a .d < M .stations) × (0 < length (M .channel (a .s) (a .d)))) (sym (after x .1))
-    (sender (N s) (H s) (a .s) (a .d) (s .pre .1 .1 .0), receiver (N s) (H s) (a .s) (a .d) (s .pre .1 .1 .0), s .pre .1 .1 .0 .some))
+    let a = s .args in (
+      after x .0,
+      subst (λ (M : Net). (a .s < M .stations) × (a .d < M .stations) × (0 < length (M .channel (a .s) (a .d)))) (sym (after x .1))
+          (sender (N s) (H s) (a .s) (a .d) (s .pre .1 .1 .0), receiver (N s) (H s) (a .s) (a .d) (s .pre .1 .1 .0), s .pre .1 .1 .0 .some),
+    )
 
 same-length : tie.Need-same-length
 same-length c = search needs

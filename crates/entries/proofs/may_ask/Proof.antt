@@ -21,7 +21,7 @@ grouped false y z = refl
 
 returns : tie.Need-returns
 returns c = let a = c .before .before .args in
-    (λ i. not (eqb (a .p) (a .root)) && c .before .joins .ensures i && c .may-ask-at .ensures i) 
+    (λ i. not (eqb (a .p) (a .root)) && c .before .joins .ensures i && c .may-ask-at .ensures i)
     ∙ grouped (not (eqb (a .p) (a .root)) && joins (a .e)) (not (eqb (a .q) nil)) (not (has (a .e .waiting) (a .q)))
 
 pub may-ask-spec : {M : Type 1} → statement M
