@@ -1,20 +1,19 @@
 -- What a step answers: by the tally of a script of one.
-use mathlib.Core.Path.{_≡_, refl, sym, ap, _∙_}
+use mathlib.Core.Path.{_≡_, refl, ap, _∙_}
 use mathlib.Core.Logic.{_≢_}
-use mathlib.Core.Bool.{true, false, cond}
+use mathlib.Core.Bool.{true, false}
 use mathlib.Core.List.{List, [], _∷_}
 use Prim.Native.Nat.{ℕ}
 use native.Mathlib.Omega.{arith}
 use lib.Dec.{eqb}
-use borrow.Author.Tests.{eq-eqb, ne-eqb, eqb-true, eqb-false}
+use borrow.Author.Tests.{eq-eqb, ne-eqb, eqb-true}
 use Rattle.bits.proofs.Cases.{by-bool}
 use Rattle.protocol.specs.declared.Case.{Case}
 use Rattle.protocol.specs.declared.Case.the-variants.{Adopted, NotTentative, Unconnected, NotGreater}
-use Rattle.protocol.specs.declared.Replies.{Replies}
 use Rattle.protocol.specs.Net.{Net, request}
 use Rattle.protocol.specs.Cases.{caseNumber, noCase}
 use Rattle.protocol.specs.Rules.{Rule, oldest, caseAt, tick, ask, refresh, deliver, lose, giveUp, dropChild, member, route, rules}
-use Rattle.protocol.specs.Steps.{rule, outcome, step, caseHeard}
+use Rattle.protocol.specs.Steps.{outcome, step, caseHeard}
 use Rattle.protocol.specs.Runs.{noTally, caseCount, countCase, then, after}
 use Rattle.protocol.specs.Shaped.{All, none, both}
 use Rattle.protocol.proofs.steps.Steps.{each-rule}
@@ -25,7 +24,6 @@ use Rattle.net.specs.View.{view}
 use Rattle.net.specs.Encode.{bytesAs, bytesLike}
 use Rattle.net.proofs.Forms.{view-bytes}
 use Rattle.step.specs.Steps.{stepOutcomeAs, stepCaseAs, stepAnswerAs, netAfterStepAs}
-use Rattle.step.specs.declared.Answer.{Answer}
 use Rattle.step.specs.inner.Counted.{caseCounted}
 
 -- ---- the case is the one that has a count

@@ -9,7 +9,6 @@ use Rattle.protocol.specs.Net.{Net, capacity, setEntry, setChannel, takeAt, sen
 use Rattle.protocol.specs.Entries.{withChild, withChildren, replyOf}
 use Rattle.protocol.specs.Rules.{room?, answered}
 use Rattle.protocol.specs.Shaped.{Shaped}
-use Rattle.protocol.proofs.shape.Changes.{take-shaped}
 use Rattle.layout.specs.Marks.{markOf}
 use Rattle.net.specs.View.{view}
 use Rattle.net.specs.Encode.{bytesLike}

@@ -1,8 +1,8 @@
-use mathlib.Core.Path.{_≡_, refl, sym, subst, _∙_}
+use mathlib.Core.Path.{_≡_, sym, subst, _∙_}
 use Prim.Native.Nat.{_<_}
 use lib.ListN.{length}
 use Rattle.protocol.specs.Net.{Net, setEntry, setChannel, takeAt}
-use Rattle.protocol.specs.Rules.{heard, caseAt}
+use Rattle.protocol.specs.Rules.{heard}
 use Rattle.protocol.specs.Shaped.{Shaped}
 use Rattle.net.specs.View.{view}
 use Rattle.net.specs.Encode.{bytesLike}

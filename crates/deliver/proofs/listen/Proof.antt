@@ -1,5 +1,4 @@
-use mathlib.Core.Path.{_≡_, refl, sym, ap, subst, _∙_}
-use mathlib.Core.List.{List}
+use mathlib.Core.Path.{_≡_, sym, ap, subst, _∙_}
 use Prim.Native.Nat.{ℕ, _<_}
 use native.Mathlib.Omega.{arith}
 use lib.Dec.{eqb}
@@ -7,7 +6,6 @@ use Rattle.bits.specs.Masks.{without}
 use Rattle.protocol.specs.declared.Case.{Case}
 use Rattle.protocol.specs.declared.Case.the-variants.{Adopted}
 use Rattle.protocol.specs.declared.Entry.{Entry}
-use Rattle.protocol.specs.declared.Message.{Message}
 use Rattle.protocol.specs.Net.{Net, station?, near?, setEntry}
 use Rattle.protocol.specs.Cases.{caseOf, caseNumber, adopts}
 use Rattle.protocol.specs.Entries.{withWaiting, stopsWaiting, adopting, hearing}

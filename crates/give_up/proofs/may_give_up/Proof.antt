@@ -1,9 +1,6 @@
-use mathlib.Core.Path.{_≡_, refl, sym, ap, _∙_}
-use mathlib.Core.Bool.{_&&_}
-use native.Mathlib.Omega.{arith}
+use mathlib.Core.Path.{_≡_, refl, sym, _∙_}
 use borrow.Author.Tests.{not-true, not-false}
 use Rattle.bits.specs.Masks.{has}
-use Rattle.protocol.specs.declared.Entry.{Entry}
 use Rattle.protocol.specs.Rules as rule
 use Rattle.net.specs.View.{view}
 use borrow.Author.Needs.{needs}

@@ -6,7 +6,6 @@ use lib.Dec.{eqb}
 use borrow.Author.Tests.{not-true, not-false}
 use Rattle.bits.specs.Masks.{has, with}
 use Rattle.protocol.specs.declared.Entry.{Entry}
-use Rattle.protocol.specs.declared.Message.{Message}
 use Rattle.protocol.specs.Net.{Net, nil, setEntry, send}
 use Rattle.protocol.specs.Entries.{withWaiting, waitsOn}
 use Rattle.protocol.specs.Rules.{Rule, room?}

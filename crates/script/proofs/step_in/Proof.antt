@@ -1,5 +1,4 @@
 use mathlib.Core.Path.{refl}
-use mathlib.Core.Logic.{⊎-elim}
 use Rattle.protocol.specs.Rules.{rules}
 use Rattle.protocol.specs.Steps.{rule}
 use Rattle.script.proofs.Ends.{arm, unknown, no-action}

@@ -1,10 +1,9 @@
-use mathlib.Core.Path.{_≡_, sym, subst, _∙_}
-use mathlib.Core.Bool.{Bool, cond, _||_}
-use lib.Dec.{eqb}
+use mathlib.Core.Path.{sym, subst, _∙_}
+use mathlib.Core.Bool.{Bool, cond}
 use borrow.Author.Tests.{not-true, not-false}
 use Rattle.protocol.specs.declared.Entry.{Entry}
 use Rattle.protocol.specs.Net.{nil}
-use Rattle.protocol.specs.Entries.{withParents, joins, leave}
+use Rattle.protocol.specs.Entries.{withParents, leave}
 use Rattle.access.specs.inner.Nets.{EntryMade}
 use Rattle.access.proofs.Laws.{made-same, made-then}
 use borrow.Author.Needs.{needs}
