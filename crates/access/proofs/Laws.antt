@@ -25,7 +25,9 @@ use Rattle.shape.specs.Shape.{shapedAs}
 use Rattle.shape.proofs.Nets.{long, plan-pass, marked}
 use Rattle.net.specs.View.{view}
 use Rattle.net.specs.Encode.{entryBytes, bytesAs, bytesLike}
+use Rattle.access.specs.declared.change.Field.{Field}
 use Rattle.access.specs.inner.Nets.{IsNet, EntryMade}
+use Rattle.access.specs.inner.Fields.{FieldIn}
 use Rattle.forms.specs.Plans.{nameOf, planIn}
 use Rattle.forms.proofs.plan.Shown.{plan-name}
 use Rattle.net.proofs.Forms.{view-channel, seen, channel-is, view-bytes, bytes-field, bytes-channel, bytes-route, stands}
@@ -80,12 +82,12 @@ module _ (m : Mark) (g p : ℕ) where
   made-after l N l' l″ f i few fewGroups hg hp e made =
       made N few fewGroups hg hp (e ∙ ap (λ (k : Mark). bytesAs k N) (sym i)) ∙ ap (λ (k : Mark). bytesAs k (setEntry N g p (f (N .entry g p)))) i
 
--- the stretch of a group, n bytes from a, was lent on, and comes back with a field put o bytes into the entry at b
-pub field-back : (m : Mark) (g p o : ℕ) (l vs : List ℕ) (a n b : ℕ) → a ≡ stretchAt m g → b ≡ inStretch m p → b + o + length vs ≤ n
-    → back a (a + n - a) l (splice (lent a (a + n - a) l) (b + o) vs) ≡ splice l (entryAt m g p + o) vs
-field-back m g p o l vs a n b starts stands fits =
-    lent-back a (a + n - a) l (b + o) vs (omega (arith, fits))
-    ∙ (λ i. splice l (starts i + (stands i + o)) vs)
+-- the stretch of a group was lent on, and comes back with a field put
+pub field-back : (m : Mark) (g p o : ℕ) (f : Field) (l vs : List ℕ) → FieldIn m g p o f → o + length vs ≤ entrySize
+    → back (f .start) (f .end - f .start) l (splice (lent (f .start) (f .end - f .start) l) (f .at) vs) ≡ splice l (entryAt m g p + o) vs
+field-back m g p o f l vs F short =
+    lent-back (f .start) (f .end - f .start) l (f .at) vs (omega (arith, F .fits, short))
+    ∙ (λ i. splice l (F .starts i + F .stands i) vs)
     ∙ ap (λ (i : ℕ). splice l i vs) (sym (add-assoc (stretchAt m g) (inStretch m p) o))
 
 module _ (l : List ℕ) (r : IsNet l) where

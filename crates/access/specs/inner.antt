@@ -1,2 +1,3 @@
 -- What only inner contracts need.
 pub mod Nets
+pub mod Fields

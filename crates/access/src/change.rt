@@ -25,6 +25,7 @@ ghost use Rattle.layout.specs.Marks.{entryAt};
 ghost use Rattle.net.specs.View.{view};
 ghost use Rattle.net.specs.Encode.{entryBytes, bytesLike};
 ghost use Rattle.access.specs.inner.Nets.{IsNet, EntryMade};
+ghost use Rattle.access.specs.inner.Fields.{FieldIn};
 
 // An entry, written to the stretch of entries of one group.
 pub fn write_entry(stretch: &mut [u8], at: usize, e: Entry)
@@ -40,30 +41,45 @@ pub fn write_entry(stretch: &mut [u8], at: usize, e: Entry)
     put16(stretch, at + 10, e.waiting);
 }
 
-// A field of the entry of station p in group g, o bytes into it: a byte, or a mask. Only the part that starts at the group's entries,
-// and ends with them, is lent on.
+// Where a field of an entry is written: only the part of the net that starts at the group's entries, and ends with them, is lent on, and the
+// field stands so far into it.
+struct Field {
+    start: usize,
+    end: usize,
+    at: usize,
+}
+
+// The field o bytes into the entry of station p in group g.
+fn field_at(m: Mark, g: u8, p: u8, o: usize) -> Field
+    requires { ⌜ (g < mostGroups) × (p < mostStations) × (o ≤ entrySize) ⌝ }
+    ensures { λ f. ⌜ FieldIn m g p o f ⌝ }
+{
+    let start = stretch_at(m, wide(g));
+    let end = start + stretch_size(m);
+    let at = in_stretch(m, wide(p)) + o;
+    Field { start, end, at }
+}
+
+// A byte.
 fn set_byte(net: &mut [u8], m: Mark, g: u8, p: u8, o: usize, v: u8)
     requires { ⌜ (length (now net) ≡ netLength) × (g < mostGroups) × (p < mostStations) × (o + 1 ≤ entrySize) ⌝ }
     ensures { λ _. ⌜ now (net .exit) ≡ splice (now (net .entry)) (entryAt m g p + o) (v ∷ []) ⌝ }
 {
-    let a = stretch_at(m, wide(g));
-    put8(
-        &mut net[a..a + stretch_size(m)],
-        in_stretch(m, wide(p)) + o,
-        v,
-    );
+    let f = field_at(m, g, p, o);
+    let start = f.start;
+    let end = f.end;
+    put8(&mut net[start..end], f.at, v);
 }
 
+// A mask.
 fn set_mask(net: &mut [u8], m: Mark, g: u8, p: u8, o: usize, mask: u16)
     requires { ⌜ (length (now net) ≡ netLength) × (g < mostGroups) × (p < mostStations) × (o + 2 ≤ entrySize) ⌝ }
     ensures { λ _. ⌜ now (net .exit) ≡ splice (now (net .entry)) (entryAt m g p + o) (bytes 2 mask) ⌝ }
 {
-    let a = stretch_at(m, wide(g));
-    put16(
-        &mut net[a..a + stretch_size(m)],
-        in_stretch(m, wide(p)) + o,
-        mask,
-    );
+    let f = field_at(m, g, p, o);
+    let start = f.start;
+    let end = f.end;
+    put16(&mut net[start..end], f.at, mask);
 }
 
 // Another parent of station p in group g.
@@ -95,12 +111,10 @@ pub fn set_clock(net: &mut [u8], m: Mark, g: u8, p: u8, clock: u32)
     requires { ⌜ (length (now net) ≡ netLength) × (g < mostGroups) × (p < mostStations) ⌝ }
     ensures { λ _. ⌜ EntryMade m (now (net .entry)) (now (net .exit)) g p (λ e. withClock e clock) ⌝ }
 {
-    let a = stretch_at(m, wide(g));
-    put32(
-        &mut net[a..a + stretch_size(m)],
-        in_stretch(m, wide(p)) + 4,
-        clock,
-    );
+    let f = field_at(m, g, p, 4);
+    let start = f.start;
+    let end = f.end;
+    put32(&mut net[start..end], f.at, clock);
 }
 
 // Other children.

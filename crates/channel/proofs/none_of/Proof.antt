@@ -34,17 +34,24 @@ message-at-requires c κs = search needs
 is-of-requires : tie.Need-is-of-requires Inv-loop μ-loop
 is-of-requires c κs = search needs
 
+-- with this message, the count is 1 or still 0
+found : (x : tie.After-is-of Inv-loop μ-loop) → let a = x .before .before .before .before .before .before .args in
+    countOf (a .kind) (a .group) (take (x .before .before .before .loop .i + 1) (messagesOf (a .ch .now))) ≡ bit (x .is-of .result)
+found x =
+    let a = x .before .before .before .before .before .before .args in
+    let l = x .before .before .before .loop in
+    let ms = messagesOf (a .ch .now) in
+    let here : l .i < length ms = rw length-messages (omega arith) in
+    let is = ap bit (x .is-of .ensures ∙ ap (isOf (a .kind) (a .group)) (x .before .message-at .ensures)) in
+    count-turn (a .kind) (a .group) ms (l .i) here ∙ omega (arith, l .inv .1, is)
+
 returns : tie.Need-returns Inv-loop μ-loop
 returns c =
-    let s = c .before .before .before .before .before .before .before in
-    let l = c .before .before .before .before .loop in
-    let ms = messagesOf (s .args .ch .now) in
-    let h : l .i < length ms = rw length-messages (omega arith) in
-    let r = c .before .is-of .ensures ∙ ap (isOf (s .args .kind) (s .args .group)) (c .before .before .message-at .ensures) in
-    let turn = count-turn (s .args .kind) (s .args .group) ms (l .i) h in
-    let one = ap bit (sym r ∙ c .if1 .taken) in
-    let le = count-take (s .args .kind) (s .args .group) (l .i + 1) ms in
-    sym (ne-eqb (countOf (s .args .kind) (s .args .group) ms) 0 (λ z. omega (arith, turn, one, le, z)))
+    let a = c .before .before .before .before .before .before .before .args in
+    let ms = messagesOf (a .ch .now) in
+    let one = found (c .before) ∙ ap bit (c .if1 .taken) in
+    let le = count-take (a .kind) (a .group) (c .before .before .before .before .loop .i + 1) ms in
+    sym (ne-eqb (countOf (a .kind) (a .group) ms) 0 (λ z. omega (arith, one, le, z)))
 
 add-i : tie.Need-add-i Inv-loop μ-loop
 add-i c = search needs
@@ -53,15 +60,7 @@ loop-less : tie.Need-loop-less Inv-loop μ-loop
 loop-less c = search needs
 
 loop-again : tie.Need-loop-again Inv-loop μ-loop
-loop-again c =
-    let s = c .before .before .before .before .before .before .before in
-    let l = c .before .before .before .before .loop in
-    let ms = messagesOf (s .args .ch .now) in
-    let h : l .i < length ms = rw length-messages (omega arith) in
-    let r = c .before .is-of .ensures ∙ ap (isOf (s .args .kind) (s .args .group)) (c .before .before .message-at .ensures) in
-    let turn = count-turn (s .args .kind) (s .args .group) ms (l .i) h in
-    let no = ap bit (sym r ∙ c .if1 .left) in
-    (omega arith, turn ∙ omega (arith, l .inv .1, no))
+loop-again c = (omega arith, found (c .before) ∙ ap bit (c .if1 .left))
 
 returns-2 : tie.Need-returns-2 Inv-loop μ-loop
 returns-2 c =

@@ -1,80 +1,39 @@
 use mathlib.Core.Path.{ap, _∙_}
-use mathlib.Core.List.{List}
-use Prim.Native.Nat.{ℕ, _+_, _-_}
+use Prim.Native.Nat.{_-_}
 use native.Mathlib.Omega.{arith}
 use Rattle.bits.specs.Numbers.{bytes}
 use Rattle.bits.proofs.Numbers.{length-bytes}
 use Rattle.bits.proofs.Parts.{back}
-use Rattle.layout.specs.Marks.{stretchAt, inStretch}
 use Rattle.access.proofs.Laws.{field-back}
 use borrow.Author.Needs.{needs}
 use Rattle.access.proofs.change.set_mask.Statement.{statement}
 use Rattle.access.proofs.change.set_mask.Tie as tie
 
-wide-requires : tie.Need-wide-requires
-wide-requires c κs = search needs
-
-stretch-at-requires : tie.Need-stretch-at-requires
-stretch-at-requires c κs = search needs
-
-stretch-size-requires : tie.Need-stretch-size-requires
-stretch-size-requires c κs = search needs
-
-add-put16 : tie.Need-add-put16
-add-put16 c = search needs
+field-at-requires : tie.Need-field-at-requires
+field-at-requires c κs = search needs
 
 sub-put16 : tie.Need-sub-put16
-sub-put16 c = search needs
+sub-put16 c = let F = c .field-at .ensures in omega (arith, F .fits)
 
 part-put16-start : tie.Need-part-put16-start
-part-put16-start c = search needs
+part-put16-start c = let F = c .field-at .ensures in omega (arith, F .fits)
 
 part-put16-end : tie.Need-part-put16-end
-part-put16-end c = search needs
-
-wide-requires-2 : tie.Need-wide-requires-2
-wide-requires-2 c κs = search needs
-
-in-stretch-requires : tie.Need-in-stretch-requires
-in-stretch-requires c κs = search needs
-
-add-put16-2 : tie.Need-add-put16-2
-add-put16-2 c = search needs
+part-put16-end c = let F = c .field-at .ensures in omega (arith, F .inside)
 
 put16-requires : tie.Need-put16-requires
-put16-requires c κs = omega (arith, c .before .before .before .stretch-size .ensures, c .in-stretch .ensures .1)
+put16-requires c κs = let F = c .before .field-at .ensures in omega (arith, F .fits)
 
 same-length : tie.Need-same-length
 same-length c = search needs
 
 returns : tie.Need-returns
 returns c = let w = c .before .before in
-    let k = w .before in
-    let z = k .before .before .before in
-    let x = z .before in
-    let s = x .before .before .before in
-    let l = s .args .net .now in
-    let a = x .stretch-at .result in
-    let n = z .stretch-size .result in
-    let starts = x .stretch-at .ensures .0 ∙ ap (stretchAt (s .args .m)) (x .before .wide .ensures .0) in
-    let stands = k .in-stretch .ensures .0 ∙ ap (inStretch (s .args .m)) (k .before .wide2 .ensures .0) in
-    ap (λ (ys : List ℕ). back a (a + n - a) l ys) (w .put16 .ensures)
-    ∙ field-back (s .args .m) (s .args .g) (s .args .p) (s .args .o) l (bytes 2 (s .args .mask)) a n _ starts stands (omega (arith, z .stretch-size .ensures, k .in-stretch .ensures .1, length-bytes 2 (s .args .mask)))
+    let x = w .before .before in
+    let a = x .before .before .args in
+    let f = x .field-at .result in
+    ap (back (f .start) (f .end - f .start) (a .net .now)) (w .put16 .ensures)
+    ∙ field-back (a .m) (a .g) (a .p) (a .o) f (a .net .now) (bytes 2 (a .mask)) (x .field-at .ensures) (omega (arith, length-bytes 2 (a .mask)))
 
 pub set-mask-spec : {M : Type 1} → statement M
-set-mask-spec =
-    tie.close
-    (tie.spec
-    wide-requires
-    stretch-at-requires
-    stretch-size-requires
-    add-put16
-    sub-put16
-    part-put16-start
-    part-put16-end
-    wide-requires-2
-    in-stretch-requires
-    add-put16-2
-    put16-requires
-    same-length
-    returns)
+set-mask-spec = tie.close (tie.spec field-at-requires sub-put16 part-put16-start part-put16-end put16-requires same-length returns)
