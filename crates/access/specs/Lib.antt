@@ -1,2 +1,2 @@
 -- What reading and changing a net's bytes asks of them.
-pub mod inner
+pub mod Inner

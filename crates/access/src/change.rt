@@ -2,14 +2,14 @@
 ghost use Rattle.std.specs.Prelude.{◌≡◌, [], ◌∷◌, ◌+◌, ◌≤◌, ◌<◌, length};
 ghost use Rattle.bits.specs.Numbers.{bytes};
 ghost use Rattle.bits.specs.Parts.{splice};
-ghost use Rattle.protocol.specs.Net.{Net, mostGroups, mostStations, capacity, setRoute, send, takeAt};
-ghost use Rattle.protocol.specs.Entries.{withParents, withMember, withClock, withChildren, withWaiting};
-ghost use Rattle.layout.specs.Layout.{entrySize, netLength};
-ghost use Rattle.layout.specs.Marks.{entryAt};
+ghost use Rattle.protocol.specs.Net.{Net, most_groups, most_stations, capacity, set_route, send, take_at};
+ghost use Rattle.protocol.specs.Entries.{with_parents, with_member, with_clock, with_children, with_waiting};
+ghost use Rattle.layout.specs.Layout.{entry_size, net_length};
+ghost use Rattle.layout.specs.Marks.{entry_at};
 ghost use Rattle.net.specs.View.{view};
-ghost use Rattle.net.specs.Encode.{entryBytes, bytesLike};
-ghost use Rattle.access.specs.inner.Nets.{IsNet, EntryMade};
-ghost use Rattle.access.specs.inner.Fields.{FieldIn};
+ghost use Rattle.net.specs.Encode.{entry_bytes, bytes_like};
+ghost use Rattle.access.specs.Inner.Nets.{IsNet, EntryMade};
+ghost use Rattle.access.specs.Inner.Fields.{FieldIn};
 
 use bits::number::{put8, put16, put32, wide};
 use layout::form::{Mark, in_stretch, stretch_at, stretch_size};
@@ -18,8 +18,8 @@ use protocol::{Entry, Message};
 
 // An entry, written to the stretch of entries of one group.
 pub fn write_entry(stretch: &mut [u8], at: usize, e: Entry)
-    requires { at + entrySize ≤ length stretch.old }
-    ensures { stretch.new ≡ splice stretch.old at (entryBytes e) }
+    requires { at + entry_size ≤ length stretch.old }
+    ensures { stretch.new ≡ splice stretch.old at (entry_bytes e) }
 {
     stretch[at] = e.parent;
     stretch[at + 1] = e.tentative;
@@ -41,7 +41,7 @@ struct Field {
 
 // The field o bytes into the entry of station p in group g.
 fn field_at(m: Mark, g: u8, p: u8, o: usize) -> Field
-    requires { (g < mostGroups) × (p < mostStations) × (o ≤ entrySize) }
+    requires { (g < most_groups) × (p < most_stations) × (o ≤ entry_size) }
     ensures { FieldIn m g p o result }
 {
     let start = stretch_at(m, wide(g));
@@ -52,8 +52,8 @@ fn field_at(m: Mark, g: u8, p: u8, o: usize) -> Field
 
 // A byte.
 fn set_byte(net: &mut [u8], m: Mark, g: u8, p: u8, o: usize, v: u8)
-    requires { (length net.old ≡ netLength) × (g < mostGroups) × (p < mostStations) × (o + 1 ≤ entrySize) }
-    ensures { net.new ≡ splice net.old (entryAt m g p + o) (v ∷ []) }
+    requires { (length net.old ≡ net_length) × (g < most_groups) × (p < most_stations) × (o + 1 ≤ entry_size) }
+    ensures { net.new ≡ splice net.old (entry_at m g p + o) (v ∷ []) }
 {
     let f = field_at(m, g, p, o);
     let start = f.start;
@@ -63,8 +63,8 @@ fn set_byte(net: &mut [u8], m: Mark, g: u8, p: u8, o: usize, v: u8)
 
 // A mask.
 fn set_mask(net: &mut [u8], m: Mark, g: u8, p: u8, o: usize, mask: u16)
-    requires { (length net.old ≡ netLength) × (g < mostGroups) × (p < mostStations) × (o + 2 ≤ entrySize) }
-    ensures { net.new ≡ splice net.old (entryAt m g p + o) (bytes 2 mask) }
+    requires { (length net.old ≡ net_length) × (g < most_groups) × (p < most_stations) × (o + 2 ≤ entry_size) }
+    ensures { net.new ≡ splice net.old (entry_at m g p + o) (bytes 2 mask) }
 {
     let f = field_at(m, g, p, o);
     let start = f.start;
@@ -74,32 +74,32 @@ fn set_mask(net: &mut [u8], m: Mark, g: u8, p: u8, o: usize, mask: u16)
 
 // Another parent of station p in group g.
 pub fn set_parent(net: &mut [u8], m: Mark, g: u8, p: u8, q: u8)
-    requires { (length net.old ≡ netLength) × (g < mostGroups) × (p < mostStations) }
-    ensures { EntryMade m net.old net.new g p (λ e. withParents e q e.tentative) }
+    requires { (length net.old ≡ net_length) × (g < most_groups) × (p < most_stations) }
+    ensures { EntryMade m net.old net.new g p (λ e. with_parents e q e.tentative) }
 {
     set_byte(net, m, g, p, 0, q);
 }
 
 // Another tentative parent.
 pub fn set_tentative(net: &mut [u8], m: Mark, g: u8, p: u8, q: u8)
-    requires { (length net.old ≡ netLength) × (g < mostGroups) × (p < mostStations) }
-    ensures { EntryMade m net.old net.new g p (λ e. withParents e e.parent q) }
+    requires { (length net.old ≡ net_length) × (g < most_groups) × (p < most_stations) }
+    ensures { EntryMade m net.old net.new g p (λ e. with_parents e e.parent q) }
 {
     set_byte(net, m, g, p, 1, q);
 }
 
 // The member flag.
 pub fn set_member(net: &mut [u8], m: Mark, g: u8, p: u8, v: u8)
-    requires { (length net.old ≡ netLength) × (g < mostGroups) × (p < mostStations) }
-    ensures { EntryMade m net.old net.new g p (λ e. withMember e v) }
+    requires { (length net.old ≡ net_length) × (g < most_groups) × (p < most_stations) }
+    ensures { EntryMade m net.old net.new g p (λ e. with_member e v) }
 {
     set_byte(net, m, g, p, 2, v);
 }
 
 // Another clock.
 pub fn set_clock(net: &mut [u8], m: Mark, g: u8, p: u8, clock: u32)
-    requires { (length net.old ≡ netLength) × (g < mostGroups) × (p < mostStations) }
-    ensures { EntryMade m net.old net.new g p (λ e. withClock e clock) }
+    requires { (length net.old ≡ net_length) × (g < most_groups) × (p < most_stations) }
+    ensures { EntryMade m net.old net.new g p (λ e. with_clock e clock) }
 {
     let f = field_at(m, g, p, 4);
     let start = f.start;
@@ -109,16 +109,16 @@ pub fn set_clock(net: &mut [u8], m: Mark, g: u8, p: u8, clock: u32)
 
 // Other children.
 pub fn set_children(net: &mut [u8], m: Mark, g: u8, p: u8, children: u16)
-    requires { (length net.old ≡ netLength) × (g < mostGroups) × (p < mostStations) }
-    ensures { EntryMade m net.old net.new g p (λ e. withChildren e children) }
+    requires { (length net.old ≡ net_length) × (g < most_groups) × (p < most_stations) }
+    ensures { EntryMade m net.old net.new g p (λ e. with_children e children) }
 {
     set_mask(net, m, g, p, 8, children);
 }
 
 // The station waits on these from now on.
 pub fn set_waiting(net: &mut [u8], m: Mark, g: u8, p: u8, waiting: u16)
-    requires { (length net.old ≡ netLength) × (g < mostGroups) × (p < mostStations) }
-    ensures { EntryMade m net.old net.new g p (λ e. withWaiting e waiting) }
+    requires { (length net.old ≡ net_length) × (g < most_groups) × (p < most_stations) }
+    ensures { EntryMade m net.old net.new g p (λ e. with_waiting e waiting) }
 {
     set_mask(net, m, g, p, 10, waiting);
 }
@@ -127,7 +127,7 @@ pub fn set_waiting(net: &mut [u8], m: Mark, g: u8, p: u8, waiting: u16)
 pub fn set_route(net: &mut [u8], p: u8, d: u8, q: u8)
     requires net { IsNet net.old }
     requires p_bound { (p < (view net.old).stations) × (d < (view net.old).stations) }
-    ensures { net.new ≡ bytesLike net.old (setRoute (view net.old) p d q) }
+    ensures { net.new ≡ bytes_like net.old (set_route (view net.old) p d q) }
 {
     let at = route_at(wide(p), wide(d));
     net[at] = q;
@@ -137,7 +137,7 @@ pub fn set_route(net: &mut [u8], p: u8, d: u8, q: u8)
 pub fn take_at(net: &mut [u8], s: u8, d: u8, i: u8)
     requires net { IsNet net.old }
     requires s_bound { (s < (view net.old).stations) × (d < (view net.old).stations) × (i < length ((view net.old).channel s d)) }
-    ensures { net.new ≡ bytesLike net.old (takeAt (view net.old) s d i) }
+    ensures { net.new ≡ bytes_like net.old (take_at (view net.old) s d i) }
 {
     let at = channel_at(wide(s), wide(d));
     channel::remove_at(&mut net[at..at + CHANNEL_SIZE], wide(i));
@@ -147,7 +147,7 @@ pub fn take_at(net: &mut [u8], s: u8, d: u8, i: u8)
 pub fn send(net: &mut [u8], s: u8, d: u8, m: Message)
     requires net { IsNet net.old }
     requires s_bound { (s < (view net.old).stations) × (d < (view net.old).stations) × (length ((view net.old).channel s d) < capacity) }
-    ensures { net.new ≡ bytesLike net.old (send (view net.old) s d m) }
+    ensures { net.new ≡ bytes_like net.old (send (view net.old) s d m) }
 {
     let at = channel_at(wide(s), wide(d));
     channel::push(&mut net[at..at + CHANNEL_SIZE], m);

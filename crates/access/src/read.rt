@@ -1,15 +1,15 @@
 // What the bytes of a net say.
 ghost use Rattle.std.specs.Prelude.{◌≡◌, ◌+◌, ◌≤◌, ◌<◌, eqb, length, get_or};
 ghost use Rattle.bits.specs.Parts.{part};
-ghost use Rattle.protocol.specs.Net.{Net, longestName, mostGroups, mostStations, group?, station?, near?};
-ghost use Rattle.protocol.specs.Entries.{count_of, underWay};
-ghost use Rattle.protocol.specs.Rules.{room?, noMessage};
-ghost use Rattle.layout.specs.Layout.{entrySize, channelsAt};
-ghost use Rattle.layout.specs.Marks.{mark_of, entryAt};
-ghost use Rattle.channel.specs.Messages.{messagesOf};
-ghost use Rattle.channel.specs.inner.Channels.{IsChannel};
+ghost use Rattle.protocol.specs.Net.{Net, longest_name, most_groups, most_stations, group?, station?, near?};
+ghost use Rattle.protocol.specs.Entries.{count_of, under_way};
+ghost use Rattle.protocol.specs.Rules.{room?, no_message};
+ghost use Rattle.layout.specs.Layout.{entry_size, channels_at};
+ghost use Rattle.layout.specs.Marks.{mark_of, entry_at};
+ghost use Rattle.channel.specs.Messages.{messages_of};
+ghost use Rattle.channel.specs.Inner.Channels.{IsChannel};
 ghost use Rattle.net.specs.View.{view, entry_of};
-ghost use Rattle.access.specs.inner.Nets.{IsNet};
+ghost use Rattle.access.specs.Inner.Nets.{IsNet};
 
 use bits::number::{get16, get32, wide};
 use layout::form::Mark;
@@ -63,7 +63,7 @@ pub fn near(net: &[u8], p: u8, q: u8) -> bool
 pub fn name_of(net: &[u8], g: u8) -> &[u8]
     requires net { IsNet net.now }
     requires g_bound { g < (view net.now).groups }
-    ensures { (result.now ≡ (view net.now).name g) × (length result.now ≤ longestName) }
+    ensures { (result.now ≡ (view net.now).name g) × (length result.now ≤ longest_name) }
 {
     let at = layout::offset::group_at(wide(g)) + 1;
     &net[at..at + wide(layout::front::name_length(net, wide(g)))]
@@ -88,8 +88,8 @@ pub fn route_of(net: &[u8], p: u8, d: u8) -> u8
 }
 
 fn read_entry(s: &[u8], at: usize) -> Entry
-    requires { at + entrySize ≤ length s.now }
-    ensures { result ≡ entry_of (part entrySize s.now at) }
+    requires { at + entry_size ≤ length s.now }
+    ensures { result ≡ entry_of (part entry_size s.now at) }
 {
     Entry {
         parent: s[at],
@@ -103,8 +103,8 @@ fn read_entry(s: &[u8], at: usize) -> Entry
 
 // Where the entry of station p in group g stands, in the form of this mark.
 pub fn entry_place(m: Mark, g: u8, p: u8) -> usize
-    requires { (g < mostGroups) × (p < mostStations) }
-    ensures { (result ≡ entryAt m g p) × (result + entrySize ≤ channelsAt) }
+    requires { (g < most_groups) × (p < most_stations) }
+    ensures { (result ≡ entry_at m g p) × (result + entry_size ≤ channels_at) }
 {
     layout::form::entry_at(m, wide(g), wide(p))
 }
@@ -131,7 +131,7 @@ pub fn entry_of(net: &[u8], g: u8, p: u8) -> Entry
 fn channel_of(net: &[u8], s: u8, d: u8) -> &[u8]
     requires net { IsNet net.now }
     requires s_bound { (s < (view net.now).stations) × (d < (view net.now).stations) }
-    ensures { IsChannel result.now × (messagesOf result.now ≡ (view net.now).channel s d) }
+    ensures { IsChannel result.now × (messages_of result.now ≡ (view net.now).channel s d) }
 {
     let at = layout::offset::channel_at(wide(s), wide(d));
     &net[at..at + CHANNEL_SIZE]
@@ -159,7 +159,7 @@ pub fn has_room(net: &[u8], s: u8, d: u8) -> bool
 pub fn oldest(net: &[u8], s: u8, d: u8) -> Message
     requires net { IsNet net.now }
     requires s_bound { (s < (view net.now).stations) × (d < (view net.now).stations) × (0 < length ((view net.now).channel s d)) }
-    ensures { result ≡ get_or ((view net.now).channel s d) 0 noMessage }
+    ensures { result ≡ get_or ((view net.now).channel s d) 0 no_message }
 {
     channel::message_at(channel_of(net, s, d), 0)
 }
@@ -177,7 +177,7 @@ fn none_of(net: &[u8], s: u8, d: u8, kind: u8, g: u8) -> bool
 pub fn quiet(net: &[u8], g: u8, p: u8, q: u8) -> bool
     requires net { IsNet net.now }
     requires p_bound { (p < (view net.now).stations) × (q < (view net.now).stations) }
-    ensures { result ≡ eqb (underWay (view net.now).channel g p q) 0 }
+    ensures { result ≡ eqb (under_way (view net.now).channel g p q) 0 }
 {
     if !none_of(net, p, q, REQUEST, g) {
         return false;

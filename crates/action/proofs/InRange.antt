@@ -7,9 +7,9 @@ use native.Mathlib.Omega.{arith}
 use lib.Dec.{eqb, ltb}
 use borrow.Author.Tests.{ltb-true}
 use Rattle.bits.proofs.Cases.{and_l, and_r}
-use Rattle.protocol.specs.Net.{Net, nil, mostStations, group?, station?, near?}
+use Rattle.protocol.specs.Net.{Net, nil, most_stations, group?, station?, near?}
 use Rattle.protocol.specs.Shaped.{Shaped}
-use Rattle.protocol.proofs.shape.Actions.{cable, near-cable}
+use Rattle.protocol.proofs.Shape.Actions.{cable, near-cable}
 
 module _ (N : Net) where
   pub group-in : (g b c : ℕ) → (group? N g && eqb b 0 && eqb c 0) ≡ true → g < N.groups
@@ -44,8 +44,8 @@ module _ (N : Net) where
         (ltb-true _ _ t, w.0, w.1)
 
     -- a route, and a parent, is nil or one of the sixteen
-    pub route-small : (p d : ℕ) → N.route p d ≢ nil → N.route p d < mostStations
-    route-small p d n = omega (arith, (cable N H p (N.route p d) (H.routes p d n).0).1, H.plan.stationsMost)
+    pub route-small : (p d : ℕ) → N.route p d ≢ nil → N.route p d < most_stations
+    route-small p d n = omega (arith, (cable N H p (N.route p d) (H.routes p d n).0).1, H.plan.stations_most)
 
-    pub parent-small : (g p : ℕ) → (N.entry g p).parent ≢ nil → (N.entry g p).parent < mostStations
-    parent-small g p n = omega (arith, (cable N H p (N.entry g p).parent ((H.entries g p).parentNear n)).1, H.plan.stationsMost)
+    pub parent-small : (g p : ℕ) → (N.entry g p).parent ≢ nil → (N.entry g p).parent < most_stations
+    parent-small g p n = omega (arith, (cable N H p (N.entry g p).parent ((H.entries g p).parent_near n)).1, H.plan.stations_most)

@@ -1,4 +1,6 @@
 // What the nine actions have in common: their operands, a station that leaves, and their answer.
+#![tactic(auto)]
+
 pub mod leave;
 pub mod operands;
 

@@ -2,7 +2,7 @@
 ghost use Rattle.std.specs.Prelude.{◌≡◌, true, ◌&&◌, ◌||◌, not, ◌<◌, eqb, ltb};
 ghost use Rattle.protocol.specs.Net.{capacity, nil, group?, station?, near?};
 ghost use Rattle.net.specs.View.{view};
-ghost use Rattle.access.specs.inner.Nets.{IsNet};
+ghost use Rattle.access.specs.Inner.Nets.{IsNet};
 
 use protocol::{CAPACITY, NIL};
 

@@ -1,4 +1,6 @@
 // The bench program: reads a plan, then a script, from standard input, and prints the listing or the refusal.
+#![tactic(auto)]
+
 ghost use Rattle.std.specs.Prelude.{◌*◌, ◌≤◌};
 
 use libc::{STDERR_FILENO, STDIN_FILENO, STDOUT_FILENO};

@@ -1,6 +1,6 @@
 -- Laws of parts and splices.
 --     part-splice, part-splice-out    what a splice puts in, and what it leaves alone
---     numberAt-add                    a number of two widths joined
+--     number_at-add                    a number of two widths joined
 --     wrote_then                      one thing put after another
 --     part-lent, put_whole, lent_back what a part that is lent holds, and what the whole is when it comes back
 --     splice-part                     what is put into a part, put into the whole
@@ -51,11 +51,11 @@ part-cong (suc w) l l' i j h =
     ap₂ ◌∷◌ (rw (add-zero i, add-zero j) at (h 0 (omega arith)))
     (part-cong w l l' (suc i) (suc j) (λ k b. rw (suc-add i k, suc-add j k) (rw (add-suc i k, add-suc j k) at (h (suc k) (omega arith)))))
 
-pub get_d_part : (w : ℕ) (l : List ℕ) (i k : ℕ) → k < w → get_or (part w l i) k 0 ≡ get_or l (i + k) 0
+pub get_or-part : (w : ℕ) (l : List ℕ) (i k : ℕ) → k < w → get_or (part w l i) k 0 ≡ get_or l (i + k) 0
 unfolding part
-get_d_part zero l i k h = absurd (omega arith)
-get_d_part (suc w) l i zero h = rw add-zero
-get_d_part (suc w) l i (suc k) h = get_d_part w l (suc i) k (omega arith) ∙ ap (λ (n : ℕ). get_or l n 0) (omega arith)
+get_or-part zero l i k h = absurd (omega arith)
+get_or-part (suc w) l i zero h = rw add-zero
+get_or-part (suc w) l i (suc k) h = get_or-part w l (suc i) k (omega arith) ∙ ap (λ (n : ℕ). get_or l n 0) (omega arith)
 
 pub part-Bytes : (w : ℕ) (l : List ℕ) (i : ℕ) → Bytes l → Bytes (part w l i)
 unfolding part
@@ -66,16 +66,16 @@ part-Bytes (suc w) l i h (suc k) = part-Bytes w l (suc i) h k
 pub part-splice : (l : List ℕ) (a : ℕ) (vs : List ℕ) → a + length vs ≤ length l → part (length vs) (splice l a vs) a ≡ vs
 part-splice l a vs f =
     ext_get_or 0 _ _ (length_part _ _ _)
-    (λ i h. let h' : i < length vs = rw length_part at h in get_d_part (length vs) _ a i h' ∙ splice-in l a vs i h' f)
+    (λ i h. let h' : i < length vs = rw length_part at h in get_or-part (length vs) _ a i h' ∙ splice-in l a vs i h' f)
 
 -- ---- numbers at an index
-pub numberAt-lt : (w : ℕ) (l : List ℕ) (i : ℕ) → Bytes l → number_at w l i < 256 ^ w
+pub number_at-lt : (w : ℕ) (l : List ℕ) (i : ℕ) → Bytes l → number_at w l i < 256 ^ w
 unfolding number_at
-numberAt-lt w l i h = rw (length_part w l i) at (number_lt (part w l i) (part-Bytes w l i h))
+number_at-lt w l i h = rw (length_part w l i) at (number_lt (part w l i) (part-Bytes w l i h))
 
-pub bytes-numberAt : (w : ℕ) (l : List ℕ) (i : ℕ) → Bytes l → bytes w (number_at w l i) ≡ part w l i
+pub bytes-number_at : (w : ℕ) (l : List ℕ) (i : ℕ) → Bytes l → bytes w (number_at w l i) ≡ part w l i
 unfolding number_at
-bytes-numberAt w l i h = rw (length_part w l i) at (bytes-number (part w l i) (part-Bytes w l i h))
+bytes-number_at w l i h = rw (length_part w l i) at (bytes-number (part w l i) (part-Bytes w l i h))
 
 -- a number of width v + w is one of width v and one of width w
 pub part-add : (v w : ℕ) (l : List ℕ) (i : ℕ) → part (v + w) l i ≡ part v l i ++ part w l (i + v)
@@ -83,9 +83,9 @@ unfolding part
 part-add zero w l i = rw (zero-add, add-zero)
 part-add (suc v) w l i = rw suc-add (ap (λ (r : List ℕ). get_or l i 0 ∷ r) (part-add v w l (suc i) ∙ ap (λ (n : ℕ). part v l (suc i) ++ part w l n) (omega arith)))
 
-pub numberAt-add : (v w : ℕ) (l : List ℕ) (i : ℕ) → number_at (v + w) l i ≡ number_at v l i * 256 ^ w + number_at w l (i + v)
+pub number_at-add : (v w : ℕ) (l : List ℕ) (i : ℕ) → number_at (v + w) l i ≡ number_at v l i * 256 ^ w + number_at w l (i + v)
 unfolding number_at number
-numberAt-add v w l i =
+number_at-add v w l i =
     ap (onto 0) (part-add v w l i) ∙ onto-append 0 (part v l i) (part w l (i + v)) ∙ onto-split (onto 0 (part v l i)) (part w l (i + v))
     ∙ ap (λ (n : ℕ). onto 0 (part v l i) * 256 ^ n + onto 0 (part w l (i + v))) (length_part w l (i + v))
 
@@ -130,24 +130,24 @@ part-splice-out w l a vs i h =
 pub part-part : (v w : ℕ) (l : List ℕ) (i k : ℕ) → k + v ≤ w → part v (part w l i) k ≡ part v l (i + k)
 part-part v w l i k h =
     part-cong v (part w l i) l k (i + k)
-    (λ n b. get_d_part w l i (k + n) (omega arith) ∙ ap (λ (x : ℕ). get_or l x 0) (omega arith))
+    (λ n b. get_or-part w l i (k + n) (omega arith) ∙ ap (λ (x : ℕ). get_or l x 0) (omega arith))
 
-pub numberAt-part : (v w : ℕ) (l : List ℕ) (i k : ℕ) → k + v ≤ w → number_at v (part w l i) k ≡ number_at v l (i + k)
+pub number_at-part : (v w : ℕ) (l : List ℕ) (i k : ℕ) → k + v ≤ w → number_at v (part w l i) k ≡ number_at v l (i + k)
 unfolding number_at
-numberAt-part v w l i k h = ap number (part-part v w l i k h)
+number_at-part v w l i k h = ap number (part-part v w l i k h)
 
 -- the whole list as a part
 pub part-all : (l : List ℕ) → part (length l) l 0 ≡ l
 part-all l =
     ext_get_or 0 _ _ (length_part _ _ _)
-    (λ i h. let h' : i < length l = rw length_part at h in get_d_part (length l) l 0 i h' ∙ ap (λ (n : ℕ). get_or l n 0) (zero-add i))
+    (λ i h. let h' : i < length l = rw length_part at h in get_or-part (length l) l 0 i h' ∙ ap (λ (n : ℕ). get_or l n 0) (zero-add i))
 
 -- ---- a part that is lent, and one that comes back whole
 pub part-lent : (w : ℕ) (l : List ℕ) (i : ℕ) → i + w ≤ length l → lent i w l ≡ part w l i
 part-lent w l i h =
     let n : length (take w (drop i l)) ≡ w = length-take-le w (drop i l) (simp length-drop (omega arith)) in
     ext_get_or 0 _ _ (n ∙ sym (length_part w l i))
-    (λ k j. let j' : k < w = rw n at j in get_or-take w (drop i l) k 0 j' ∙ get_or-drop i l k 0 ∙ sym (get_d_part w l i k j'))
+    (λ k j. let j' : k < w = rw n at j in get_or-take w (drop i l) k 0 j' ∙ get_or-drop i l k 0 ∙ sym (get_or-part w l i k j'))
 
 pub put_whole : (a k : ℕ) (xs ys : List ℕ) → length ys ≡ k → a + k ≤ length xs → back a k xs ys ≡ splice xs a ys
 unfolding splice
@@ -188,10 +188,10 @@ part_same w l i = part-part w w l i 0 (omega arith) ∙ ap (part w l) (add-zero 
 pub part-whole : (w : ℕ) (l : List ℕ) → length l ≡ w → part w l 0 ≡ l
 part-whole w l e = rw (← e) (part-all l)
 
-pub getD-zeros : (n i : ℕ) → ◌≡◌ {A = ℕ} (get_or (replicate n 0) i 0) 0
-getD-zeros zero i = refl
-getD-zeros (suc n) zero = refl
-getD-zeros (suc n) (suc i) = getD-zeros n i
+pub get_or-zeros : (n i : ℕ) → ◌≡◌ {A = ℕ} (get_or (replicate n 0) i 0) 0
+get_or-zeros zero i = refl
+get_or-zeros (suc n) zero = refl
+get_or-zeros (suc n) (suc i) = get_or-zeros n i
 
 -- ---- nothing put, and one thing put after another
 pub wrote_none : (o : List ℕ) (i : ℕ) → Wrote o o i i []

@@ -10,7 +10,7 @@ use lib.ListN.{length, get_or}
 use Rattle.bits.specs.Parts.{part, splice}
 use Rattle.bits.specs.Stretches.{Stretch, stretch, further, sizes, Outside, ChangedIn}
 use Rattle.bits.proofs.Cases.{by-lt}
-use Rattle.bits.proofs.Parts.{length-splice, splice-in, splice-out, length_part, get_d_part}
+use Rattle.bits.proofs.Parts.{length-splice, splice-in, splice-out, length_part, get_or-part}
 
 -- ---- two rows of stretches
 pub outside-both : (ts us : List Stretch) (x : ℕ) → Outside (ts ++ us) x → Outside ts x × Outside us x
@@ -55,7 +55,7 @@ pub changed-part : (ts : List Stretch) (n : ℕ) (l : List ℕ) (a : ℕ) (ys : 
 changed-part ts n l a ys h c =
     let e : length ys ≡ n = c.long ∙ length_part n l a in
     let within : (k : ℕ) → k < n → Outside (further a ts) (a + k) → get_or (splice l a ys) (a + k) 0 ≡ get_or l (a + k) 0 =
-    λ k b o. splice-in l a ys k (omega arith) (omega arith) ∙ c.rest k (outside-nearer a ts k o) ∙ get_d_part n l a k b in
+    λ k b o. splice-in l a ys k (omega arith) (omega arith) ∙ c.rest k (outside-nearer a ts k o) ∙ get_or-part n l a k b in
     record {
       long = length-splice l a ys;
       rest = λ x o. by-lt x a

@@ -7,8 +7,8 @@ over f j zero = 0
 over f j (suc k) = f j + over f (suc j) k
 
 -- over the numbers below n
-abbrev pub sumBelow : ℕ → (ℕ → ℕ) → ℕ
-sumBelow n f = over f 0 n
+abbrev pub sum_below : ℕ → (ℕ → ℕ) → ℕ
+sum_below n f = over f 0 n
 
 -- 1 for true: what a test adds to a count
 abbrev pub bit : Bool → ℕ

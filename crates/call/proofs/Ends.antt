@@ -9,19 +9,19 @@ use lib.Dec.{ltb}
 use lib.ListN.{length}
 use borrow.Author.Tests.{ltb-true, lt-ltb, eq-eqb, ne_eqb}
 use Rattle.bits.proofs.Cases.{and_l, and_r, and_both}
-use Rattle.tree.specs.Tree.{onTree}
+use Rattle.tree.specs.Tree.{on_tree}
 use Rattle.tree.specs.Reach.{reach}
 use Rattle.tree.specs.Flood.{spread}
 use Rattle.tree.proofs.Chains.{on-tree}
 use Rattle.protocol.specs.Net.{Net, group?, station?}
-use Rattle.protocol.specs.Calls.{tree_of, callOutcome, called, reachList}
+use Rattle.protocol.specs.Calls.{tree_of, call_outcome, called, reach_list}
 use Rattle.protocol.proofs.Calls.{tree-rooted, call-copies}
 use Rattle.shape.specs.Shape.{shaped}
 use Rattle.net.specs.View.{view}
-use Rattle.access.specs.inner.Nets.{IsNet}
-use Rattle.visit.specs.Lists.{reachBytes, listLength}
+use Rattle.access.specs.Inner.Nets.{IsNet}
+use Rattle.visit.specs.Lists.{reach_bytes, list_length}
 use Rattle.call.specs.declared.Answer.TheVariants.{Reached, Refused}
-use Rattle.call.specs.Answers.{answer_of, calledIn, listAfterCall, CallEnd}
+use Rattle.call.specs.Answers.{answer_of, called_in, list_after_call, CallEnd}
 use Rattle.net.proofs.Forms.{seen}
 
 -- a group and a station of the net, as the test has them
@@ -34,32 +34,32 @@ unfolding group? station?
 in_both N g c o = (ltb-true _ _ (and_l (ltb g N.groups) (ltb c N.stations) o), ltb-true _ _ (and_r (ltb g N.groups) (ltb c N.stations) o))
 
 -- one more than the copies is the number reached
-pub copies : (l : List ℕ) (R : IsNet l) (g c : ℕ) → g < (view l).groups → onTree (tree_of (view l) g) c ≡ true → suc (length (spread (tree_of (view l) g) c)) ≡ length (reach (tree_of (view l) g))
+pub copies : (l : List ℕ) (R : IsNet l) (g c : ℕ) → g < (view l).groups → on_tree (tree_of (view l) g) c ≡ true → suc (length (spread (tree_of (view l) g) c)) ≡ length (reach (tree_of (view l) g))
 copies l R g c h t = let H = seen _ l R.shape in call-copies (view l) H g h c ((on-tree (tree_of (view l) g) (tree-rooted (view l) H g h) c).1 t)
 
 module _ (l : List ℕ) (g c : ℕ) (out : List ℕ) where
   pub ends-1 : shaped l ≡ false → CallEnd l g c out (Refused 1) out
-  unfolding calledIn listAfterCall answer_of
+  unfolding called_in list_after_call answer_of
   ends-1 s = record { answer = rw s refl; list = rw s refl }
 
   module _ (s : shaped l ≡ true) where
     pub ends-3 : (group? (view l) g && station? (view l) c) ≡ false → CallEnd l g c out (Refused 3) out
-    unfolding calledIn listAfterCall answer_of called callOutcome
+    unfolding called_in list_after_call answer_of called call_outcome
     ends-3 o = record { answer = rw (s, o) refl; list = rw (s, o) refl }
 
-    pub ends-10 : (group? (view l) g && station? (view l) c) ≡ true → length out ≢ listLength → CallEnd l g c out (Refused 10) out
-    unfolding calledIn listAfterCall answer_of called callOutcome
+    pub ends-10 : (group? (view l) g && station? (view l) c) ≡ true → length out ≢ list_length → CallEnd l g c out (Refused 10) out
+    unfolding called_in list_after_call answer_of called call_outcome
     ends-10 o n = let f = ne_eqb _ _ n in record { answer = rw (s, o, f) refl; list = rw (s, o, f) refl }
 
-    module _ (o : (group? (view l) g && station? (view l) c) ≡ true) (n : length out ≡ listLength) where
-      pub ends-8 : onTree (tree_of (view l) g) c ≡ false → CallEnd l g c out (Refused 8) out
-      unfolding calledIn listAfterCall answer_of called callOutcome
+    module _ (o : (group? (view l) g && station? (view l) c) ≡ true) (n : length out ≡ list_length) where
+      pub ends-8 : on_tree (tree_of (view l) g) c ≡ false → CallEnd l g c out (Refused 8) out
+      unfolding called_in list_after_call answer_of called call_outcome
       ends-8 f = let e = eq-eqb _ _ n in record { answer = rw (s, o, e, f) refl; list = rw (s, o, e, f) refl }
 
       -- "copies is the number of passings-on in that definition, and is reached minus one"
-      pub ends-0 : (r k : ℕ) (out' : List ℕ) → onTree (tree_of (view l) g) c ≡ true → r ≡ length (reach (tree_of (view l) g)) → suc k ≡ r
-          → suc (length (spread (tree_of (view l) g) c)) ≡ length (reach (tree_of (view l) g)) → out' ≡ reachBytes (reachList (view l) g) → CallEnd l g c out (Reached r k) out'
-      unfolding calledIn listAfterCall answer_of called callOutcome
+      pub ends-0 : (r k : ℕ) (out' : List ℕ) → on_tree (tree_of (view l) g) c ≡ true → r ≡ length (reach (tree_of (view l) g)) → suc k ≡ r
+          → suc (length (spread (tree_of (view l) g) c)) ≡ length (reach (tree_of (view l) g)) → out' ≡ reach_bytes (reach_list (view l) g) → CallEnd l g c out (Reached r k) out'
+      unfolding called_in list_after_call answer_of called call_outcome
       ends-0 r k out' t i j copies w =
           let e = eq-eqb _ _ n in
           let kk : k ≡ length (spread (tree_of (view l) g) c) = omega arith in

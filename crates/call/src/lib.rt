@@ -1,10 +1,12 @@
 // The reach of a call.
+#![tactic(auto)]
+
 ghost use Rattle.std.specs.Prelude.{◌≡◌, true, ◌<◌, length};
 ghost use Rattle.protocol.specs.Net.{Net};
 ghost use Rattle.shape.specs.Shape.{shaped};
 ghost use Rattle.net.specs.View.{view};
-ghost use Rattle.access.specs.inner.Nets.{IsNet};
-ghost use Rattle.visit.specs.Lists.{listLength};
+ghost use Rattle.access.specs.Inner.Nets.{IsNet};
+ghost use Rattle.visit.specs.Lists.{list_length};
 ghost use Rattle.call.specs.Answers.{CallEnd};
 
 // The answer: how many are reached and how many copies are made, or the number of a refusal.
@@ -17,7 +19,7 @@ pub enum Answer {
 // The call of a station that is one, in a group that is one, with a list of the stated size.
 fn call_in(net: &[u8], g: u8, c: u8, out: &mut [u8]) -> Answer
     requires net { IsNet net.now }
-    requires g_bound { (g < (view net.now).groups) × (c < (view net.now).stations) × (length out.old ≡ listLength) × (shaped net.now ≡ true) }
+    requires g_bound { (g < (view net.now).groups) × (c < (view net.now).stations) × (length out.old ≡ list_length) × (shaped net.now ≡ true) }
     ensures { CallEnd net.now g c out.old result out.new }
 {
     if visit::on_tree(net, g, c) {

@@ -21,96 +21,96 @@ use Rattle.bits.proofs.Numbers.{length-bytes}
 use Rattle.bits.proofs.Stretches.{changed_then, changed-splice, changed-part}
 use Rattle.protocol.specs.declared.Entry.{Entry}
 use Rattle.protocol.specs.declared.Message.{Message}
-use Rattle.protocol.specs.Net.{Net, capacity, request, mostStations, mostGroups, upd2, removeAt, setEntry, setChannel, takeAt, send, near?}
+use Rattle.protocol.specs.Net.{Net, capacity, request, most_stations, most_groups, upd2, remove_at, set_entry, set_channel, take_at, send, near?}
 use Rattle.protocol.specs.Cases.{adopts}
-use Rattle.protocol.specs.Entries.{withParents, withClock, withChild, stopsWaiting, adopting, hearing, replyOf}
+use Rattle.protocol.specs.Entries.{with_parents, with_clock, with_child, stops_waiting, adopting, hearing, reply_of}
 use Rattle.protocol.specs.Rules.{oldest, room?, answered, heard, deliver}
 use Rattle.protocol.specs.Shaped.{Shaped}
-use Rattle.protocol.proofs.laws.Maps.{upd2-hit, upd2-miss, set-again, length-remove, length-snoc}
-use Rattle.protocol.proofs.shape.Actions.{near-cable, oldest-shaped, answer-entry, taken-room}
-use Rattle.protocol.proofs.steps.Steps.{Passed}
-use Rattle.layout.specs.Layout.{stations, entrySize, channelAt, channelSize, messageSize}
+use Rattle.protocol.proofs.Laws.Maps.{upd2-hit, upd2-miss, set-again, length-remove, length-snoc}
+use Rattle.protocol.proofs.Shape.Actions.{near-cable, oldest-shaped, answer-entry, taken-room}
+use Rattle.protocol.proofs.Steps.Steps.{Passed}
+use Rattle.layout.specs.Layout.{stations, entry_size, channel_at, channel_size, message_size}
 use Rattle.layout.specs.declared.form.Mark.{Mark}
-use Rattle.layout.specs.Marks.{entryAt}
-use Rattle.channel.specs.Messages.{messagesOf, channelBytes}
-use Rattle.channel.specs.inner.Channels.{IsChannel}
-use Rattle.changes.specs.Removal.{countAndSlots}
+use Rattle.layout.specs.Marks.{entry_at}
+use Rattle.channel.specs.Messages.{messages_of, channel_bytes}
+use Rattle.channel.specs.Inner.Channels.{IsChannel}
+use Rattle.changes.specs.Removal.{count_and_slots}
 use Rattle.changes.proofs.Removal.{message-removed, message-sent}
-use Rattle.forms.specs.Plans.{planIn}
-use Rattle.shape.specs.Shape.{shapedAs}
+use Rattle.forms.specs.Plans.{plan_in}
+use Rattle.shape.specs.Shape.{shaped_as}
 use Rattle.net.specs.View.{view}
-use Rattle.net.specs.Encode.{entryBytes, bytesAs}
+use Rattle.net.specs.Encode.{entry_bytes, bytes_as}
 use Rattle.net.proofs.Records.{children-put, waiting-put}
 use Rattle.net.proofs.Forms.{seen, view-bytes, view-channel, channel-is, bytes-hold, bytes-field, bytes-parent, bytes-channel, stands}
-use Rattle.changes.specs.Changes.{takingOut, goingOut, delivering}
+use Rattle.changes.specs.Changes.{taking_out, going_out, delivering}
 
 -- ---- one channel of bytes that are a net's
-module _ (m : Mark) (l : List ℕ) (h : shapedAs m l ≡ true) (s d : ℕ) (hs : s < (view l).stations) (hd : d < (view l).stations) where
+module _ (m : Mark) (l : List ℕ) (h : shaped_as m l ≡ true) (s d : ℕ) (hs : s < (view l).stations) (hd : d < (view l).stations) where
   abbrev ms : List Message
   ms = (view l).channel s d
 
-  few : (view l).stations ≤ mostStations
-  few = (seen m l h).plan.stationsMost
+  few : (view l).stations ≤ most_stations
+  few = (seen m l h).plan.stations_most
 
-  fits : channelAt s d + channelSize ≤ length l
+  fits : channel_at s d + channel_size ≤ length l
   fits = omega (arith, few, ap length (view-bytes m l h), (bytes-hold m (view l)).long)
 
   pub below : (s < stations l) × (d < stations l)
-  unfolding view planIn
+  unfolding view plan_in
   below = (hs, hd)
 
-  pub shows : messagesOf (part channelSize l (channelAt s d)) ≡ (view l).channel s d
+  pub shows : messages_of (part channel_size l (channel_at s d)) ≡ (view l).channel s d
   shows = sym (view-channel l s d below.0 below.1)
 
   -- other messages put in the channel
-  put : (ms : List Message) → length ms ≤ capacity → bytesAs m (setChannel (view l) s d ms) ≡ splice l (channelAt s d) (channelBytes ms)
-  put ms most = bytes-channel m (view l) few (seen m l h).plan.groupsMost s d ms most hs hd ∙ ap (λ (x : List ℕ). splice x (channelAt s d) (channelBytes ms)) (view-bytes m l h)
+  put : (ms : List Message) → length ms ≤ capacity → bytes_as m (set_channel (view l) s d ms) ≡ splice l (channel_at s d) (channel_bytes ms)
+  put ms most = bytes-channel m (view l) few (seen m l h).plan.groups_most s d ms most hs hd ∙ ap (λ (x : List ℕ). splice x (channel_at s d) (channel_bytes ms)) (view-bytes m l h)
 
-  in-channel : (ts : List Stretch) (ms : List Message) → length ms ≤ capacity → ChangedIn ts (part channelSize l (channelAt s d)) (channelBytes ms)
-      → ChangedIn (further (channelAt s d) ts) l (bytesAs m (setChannel (view l) s d ms))
-  in-channel ts ms most c = subst (ChangedIn (further (channelAt s d) ts) l) (sym (put ms most)) (changed-part ts channelSize l (channelAt s d) (channelBytes ms) fits c)
+  in-channel : (ts : List Stretch) (ms : List Message) → length ms ≤ capacity → ChangedIn ts (part channel_size l (channel_at s d)) (channel_bytes ms)
+      → ChangedIn (further (channel_at s d) ts) l (bytes_as m (set_channel (view l) s d ms))
+  in-channel ts ms most c = subst (ChangedIn (further (channel_at s d) ts) l) (sym (put ms most)) (changed-part ts channel_size l (channel_at s d) (channel_bytes ms) fits c)
 
-  pub taking : (i : ℕ) → i < length ms → ChangedIn (takingOut l s d i) l (bytesAs m (takeAt (view l) s d i))
-  unfolding takingOut takeAt
+  pub taking : (i : ℕ) → i < length ms → ChangedIn (taking_out l s d i) l (bytes_as m (take_at (view l) s d i))
+  unfolding taking_out take_at
   taking i f =
-      let b = part channelSize l (channelAt s d) in
+      let b = part channel_size l (channel_at s d) in
       let c : IsChannel b = channel-is m l h s d below.0 below.1 in
-      in-channel (countAndSlots messageSize i (length ms)) (removeAt i ms) (omega (arith, length-remove i ms, ((seen m l h).channels s d).at_most))
-      (subst (λ (xs : List Message). ChangedIn (countAndSlots messageSize i (length xs)) b (channelBytes (removeAt i xs))) shows
+      in-channel (count_and_slots message_size i (length ms)) (remove_at i ms) (omega (arith, length-remove i ms, ((seen m l h).channels s d).at_most))
+      (subst (λ (xs : List Message). ChangedIn (count_and_slots message_size i (length xs)) b (channel_bytes (remove_at i xs))) shows
       (message-removed b c i (rw shows f)).only)
 
-  going : (x : Message) → length ms < capacity → ChangedIn (goingOut l s d) l (bytesAs m (send (view l) s d x))
-  unfolding goingOut send
+  going : (x : Message) → length ms < capacity → ChangedIn (going_out l s d) l (bytes_as m (send (view l) s d x))
+  unfolding going_out send
   going x f =
-      let b = part channelSize l (channelAt s d) in
+      let b = part channel_size l (channel_at s d) in
       let c : IsChannel b = channel-is m l h s d below.0 below.1 in
-      in-channel (countAndSlots messageSize (length ms) (length ms + 1)) (ms ++ (x ∷ [])) (omega (arith, length-snoc ms x, f))
-      (subst (λ (xs : List Message). ChangedIn (countAndSlots messageSize (length xs) (length xs + 1)) b (channelBytes (xs ++ (x ∷ [])))) shows
+      in-channel (count_and_slots message_size (length ms) (length ms + 1)) (ms ++ (x ∷ [])) (omega (arith, length-snoc ms x, f))
+      (subst (λ (xs : List Message). ChangedIn (count_and_slots message_size (length xs) (length xs + 1)) b (channel_bytes (xs ++ (x ∷ [])))) shows
       (message-sent b c x (rw shows f)))
 
 -- ---- one field of an entry, in the bytes of any net
-module _ (m : Mark) (N : Net) (few : N.stations ≤ mostStations) (fewGroups : N.groups ≤ mostGroups) (g p : ℕ) (hg : g < N.groups) (hp : p < N.stations) where
+module _ (m : Mark) (N : Net) (few : N.stations ≤ most_stations) (few_groups : N.groups ≤ most_groups) (g p : ℕ) (hg : g < N.groups) (hp : p < N.stations) where
   abbrev at : ℕ
-  at = entryAt m g p
+  at = entry_at m g p
 
-  field : (o n : ℕ) (vs : List ℕ) (e : Entry) → splice (entryBytes (N.entry g p)) o vs ≡ entryBytes e → length vs ≡ n → o + n ≤ entrySize
-      → ChangedIn (stretch (at + o) n ∷ []) (bytesAs m N) (bytesAs m (setEntry N g p e))
+  field : (o n : ℕ) (vs : List ℕ) (e : Entry) → splice (entry_bytes (N.entry g p)) o vs ≡ entry_bytes e → length vs ≡ n → o + n ≤ entry_size
+      → ChangedIn (stretch (at + o) n ∷ []) (bytes_as m N) (bytes_as m (set_entry N g p e))
   field o n vs e put k fits =
-      subst (ChangedIn (stretch (at + o) n ∷ []) (bytesAs m N)) (bytes-field m N few fewGroups g p o vs e put (omega arith) hg hp)
-      (changed-splice (bytesAs m N) (at + o) n vs k)
+      subst (ChangedIn (stretch (at + o) n ∷ []) (bytes_as m N)) (bytes-field m N few few_groups g p o vs e put (omega arith) hg hp)
+      (changed-splice (bytes_as m N) (at + o) n vs k)
 
 -- a parent and a clock
-parent-and-clock : (m : Mark) (N : Net) → N.stations ≤ mostStations → N.groups ≤ mostGroups → (g p q k : ℕ) → g < N.groups → p < N.stations → let e = N.entry g p in
-    ChangedIn (stretch (entryAt m g p) 1 ∷ stretch (entryAt m g p + 4) 4 ∷ []) (bytesAs m N) (bytesAs m (setEntry N g p (withClock (withParents e q e.tentative) k)))
-parent-and-clock m N few fewGroups g p q k hg hp =
-    let at = entryAt m g p in
-    let l = splice (bytesAs m N) (at + 0) (q ∷ []) in
-    let one : ChangedIn (stretch at 1 ∷ []) (bytesAs m N) l = subst (λ (i : ℕ). ChangedIn (stretch i 1 ∷ []) (bytesAs m N) l) (add-zero at) (changed-splice (bytesAs m N) (at + 0) 1 (q ∷ []) refl) in
-    subst (ChangedIn (stretch at 1 ∷ stretch (at + 4) 4 ∷ []) (bytesAs m N)) (bytes-parent m N few fewGroups g p q k hg hp)
+parent-and-clock : (m : Mark) (N : Net) → N.stations ≤ most_stations → N.groups ≤ most_groups → (g p q k : ℕ) → g < N.groups → p < N.stations → let e = N.entry g p in
+    ChangedIn (stretch (entry_at m g p) 1 ∷ stretch (entry_at m g p + 4) 4 ∷ []) (bytes_as m N) (bytes_as m (set_entry N g p (with_clock (with_parents e q e.tentative) k)))
+parent-and-clock m N few few_groups g p q k hg hp =
+    let at = entry_at m g p in
+    let l = splice (bytes_as m N) (at + 0) (q ∷ []) in
+    let one : ChangedIn (stretch at 1 ∷ []) (bytes_as m N) l = subst (λ (i : ℕ). ChangedIn (stretch i 1 ∷ []) (bytes_as m N) l) (add-zero at) (changed-splice (bytes_as m N) (at + 0) 1 (q ∷ []) refl) in
+    subst (ChangedIn (stretch at 1 ∷ stretch (at + 4) 4 ∷ []) (bytes_as m N)) (bytes-parent m N few few_groups g p q k hg hp)
     (changed_then one (changed-splice l (at + 4) 4 (bytes 4 k) (length-bytes 4 k)))
 
 -- ---- a delivery, of bytes that are a net's
-module _ (m : Mark) (l : List ℕ) (h : shapedAs m l ≡ true) (s d c : ℕ) (P : Passed (deliver (view l) s d c)) where
+module _ (m : Mark) (l : List ℕ) (h : shaped_as m l ≡ true) (s d c : ℕ) (P : Passed (deliver (view l) s d c)) where
   abbrev N : Net
   N = view l
 
@@ -127,7 +127,7 @@ module _ (m : Mark) (l : List ℕ) (h : shapedAs m l ≡ true) (s d c : ℕ) (P 
   e = (view l).entry (oldest (view l).channel s d).group d
 
   abbrev out : Net
-  out = takeAt (view l) s d 0
+  out = take_at (view l) s d 0
 
   near : near? N s d ≡ true
   unfolding deliver
@@ -143,56 +143,56 @@ module _ (m : Mark) (l : List ℕ) (h : shapedAs m l ≡ true) (s d c : ℕ) (P 
   in-groups : g < N.groups
   in-groups = (oldest-shaped N H s d some).grouped
 
-  taken : ChangedIn (takingOut l s d 0) l (bytesAs m out)
+  taken : ChangedIn (taking_out l s d 0) l (bytes_as m out)
   taken = taking m l h s d ends.0 ends.1 0 some
 
   -- one field of the receiver's entry, once the message is out
-  receiver : (o n : ℕ) (vs : List ℕ) (f : Entry) → splice (entryBytes e) o vs ≡ entryBytes f → length vs ≡ n → o + n ≤ entrySize
-      → ChangedIn (stretch (entryAt m g d + o) n ∷ []) (bytesAs m out) (bytesAs m (setEntry out g d f))
-  unfolding takeAt setChannel
-  receiver = field m out H.plan.stationsMost H.plan.groupsMost g d in-groups ends.1
+  receiver : (o n : ℕ) (vs : List ℕ) (f : Entry) → splice (entry_bytes e) o vs ≡ entry_bytes f → length vs ≡ n → o + n ≤ entry_size
+      → ChangedIn (stretch (entry_at m g d + o) n ∷ []) (bytes_as m out) (bytes_as m (set_entry out g d f))
+  unfolding take_at set_channel
+  receiver = field m out H.plan.stations_most H.plan.groups_most g d in-groups ends.1
 
-  waited : ChangedIn (stretch (entryAt m g d + 10) 2 ∷ []) (bytesAs m out) (bytesAs m (setEntry out g d (stopsWaiting e s)))
-  waited = receiver 10 2 (bytes 2 (without e.waiting s)) (stopsWaiting e s) (waiting-put e _) (length-bytes 2 _) (omega arith)
+  waited : ChangedIn (stretch (entry_at m g d + 10) 2 ∷ []) (bytes_as m out) (bytes_as m (set_entry out g d (stops_waiting e s)))
+  waited = receiver 10 2 (bytes 2 (without e.waiting s)) (stops_waiting e s) (waiting-put e _) (length-bytes 2 _) (omega arith)
 
-  adopted : ChangedIn (stretch (entryAt m g d) 1 ∷ stretch (entryAt m g d + 4) 4 ∷ []) (bytesAs m (setEntry out g d (stopsWaiting e s))) (bytesAs m (setEntry out g d (adopting (stopsWaiting e s) s x)))
-  unfolding takeAt setChannel setEntry
+  adopted : ChangedIn (stretch (entry_at m g d) 1 ∷ stretch (entry_at m g d + 4) 4 ∷ []) (bytes_as m (set_entry out g d (stops_waiting e s))) (bytes_as m (set_entry out g d (adopting (stops_waiting e s) s x)))
+  unfolding take_at set_channel set_entry
   adopted =
-      let f = stopsWaiting e s in
-      let N₁ = setEntry out g d f in
-      subst (λ (M : Net). ChangedIn (stretch (entryAt m g d) 1 ∷ stretch (entryAt m g d + 4) 4 ∷ []) (bytesAs m N₁) (bytesAs m M))
-      ((λ i. setEntry N₁ g d (adopting (upd2-hit N.entry g d f i) s x)) ∙ set-again out g d f (adopting f s x))
-      (parent-and-clock m N₁ H.plan.stationsMost H.plan.groupsMost g d s x.clock in-groups ends.1)
+      let f = stops_waiting e s in
+      let N₁ = set_entry out g d f in
+      subst (λ (M : Net). ChangedIn (stretch (entry_at m g d) 1 ∷ stretch (entry_at m g d + 4) 4 ∷ []) (bytes_as m N₁) (bytes_as m M))
+      ((λ i. set_entry N₁ g d (adopting (upd2-hit N.entry g d f i) s x)) ∙ set-again out g d f (adopting f s x))
+      (parent-and-clock m N₁ H.plan.stations_most H.plan.groups_most g d s x.clock in-groups ends.1)
 
   -- a request: the sender is listed, and the reply goes out
   abbrev listed : Net
-  listed = setEntry (takeAt (view l) s d 0) (oldest (view l).channel s d).group d (withChild ((view l).entry (oldest (view l).channel s d).group d) s)
+  listed = set_entry (take_at (view l) s d 0) (oldest (view l).channel s d).group d (with_child ((view l).entry (oldest (view l).channel s d).group d) s)
 
-  lists : ChangedIn (stretch (entryAt m g d + 8) 2 ∷ []) (bytesAs m out) (bytesAs m listed)
-  lists = receiver 8 2 (bytes 2 (with e.children s)) (withChild e s) (children-put e _) (length-bytes 2 _) (omega arith)
+  lists : ChangedIn (stretch (entry_at m g d + 8) 2 ∷ []) (bytes_as m out) (bytes_as m listed)
+  lists = receiver 8 2 (bytes 2 (with e.children s)) (with_child e s) (children-put e _) (length-bytes 2 _) (omega arith)
 
-  replies : (r : Message) → length (out.channel d s) < capacity → ChangedIn (goingOut l d s) (bytesAs m listed) (bytesAs m (send listed d s r))
-  unfolding goingOut takeAt setChannel setEntry
+  replies : (r : Message) → length (out.channel d s) < capacity → ChangedIn (going_out l d s) (bytes_as m listed) (bytes_as m (send listed d s r))
+  unfolding going_out take_at set_channel set_entry
   replies r room =
-      let w = stands m listed (bytesAs m listed) (answer-entry N H s d near some g refl) refl in
+      let w = stands m listed (bytes_as m listed) (answer-entry N H s d near some g refl) refl in
       let back : (view l).channel d s ≡ listed.channel d s = sym (upd2-miss N.channel s d _ d s (λ i j. ends.2 j)) in
-      subst (λ (xs : List Message). ChangedIn (further (channelAt d s) (countAndSlots messageSize (length xs) (length xs + 1))) (bytesAs m listed) (bytesAs m (send listed d s r))) (sym back)
+      subst (λ (xs : List Message). ChangedIn (further (channel_at d s) (count_and_slots message_size (length xs) (length xs + 1))) (bytes_as m listed) (bytes_as m (send listed d s r))) (sym back)
       (subst (λ (M : Net). d < M.stations → s < M.stations → length (M.channel d s) < capacity
-      → ChangedIn (further (channelAt d s) (countAndSlots messageSize (length (M.channel d s)) (length (M.channel d s) + 1))) (bytesAs m listed) (bytesAs m (send M d s r))) w.1
-      (λ hd hs f. going m (bytesAs m listed) w.0 d s hd hs r f) ends.1 ends.0 room)
+      → ChangedIn (further (channel_at d s) (count_and_slots message_size (length (M.channel d s)) (length (M.channel d s) + 1))) (bytes_as m listed) (bytes_as m (send M d s r))) w.1
+      (λ hd hs f. going m (bytes_as m listed) w.0 d s hd hs r f) ends.1 ends.0 room)
 
-  pub delivered : ChangedIn (delivering m l s d) l (bytesAs m (deliver N s d c).next)
-  unfolding delivering deliver answered heard hearing takeAt setChannel
+  pub delivered : ChangedIn (delivering m l s d) l (bytes_as m (deliver N s d c).next)
+  unfolding delivering deliver answered heard hearing take_at set_channel
   delivered = by_bool (eqb x.kind request)
-      (λ t. let room : room? N d s ≡ true = rw t at P.sendRoom in
-      rw t (changed_then taken (changed_then lists (replies (replyOf g (N.root g) d (withChild e s)) (taken-room N H s d 0 d s room)))))
+      (λ t. let room : room? N d s ≡ true = rw t at P.send_room in
+      rw t (changed_then taken (changed_then lists (replies (reply_of g (N.root g) d (with_child e s)) (taken-room N H s d 0 d s room)))))
       (λ f. rw f (changed_then taken (by_bool (adopts e s x) (λ t. rw t (changed_then waited adopted)) (λ n. rw n waited))))
 
   -- what is left in the channel
-  pub left : (deliver N s d c).next.channel s d ≡ removeAt 0 (N.channel s d)
-  unfolding deliver answered heard send takeAt setEntry setChannel
+  pub left : (deliver N s d c).next.channel s d ≡ remove_at 0 (N.channel s d)
+  unfolding deliver answered heard send take_at set_entry set_channel
   left =
-      let out : upd2 N.channel s d (removeAt 0 (N.channel s d)) s d ≡ removeAt 0 (N.channel s d) = upd2-hit N.channel s d _ in
+      let out : upd2 N.channel s d (remove_at 0 (N.channel s d)) s d ≡ remove_at 0 (N.channel s d) = upd2-hit N.channel s d _ in
       by_bool (eqb x.kind request)
-      (λ t. rw t (upd2-miss (upd2 N.channel s d (removeAt 0 (N.channel s d))) d s _ s d (λ i j. ends.2 i) ∙ out))
+      (λ t. rw t (upd2-miss (upd2 N.channel s d (remove_at 0 (N.channel s d))) d s _ s d (λ i j. ends.2 i) ∙ out))
       (λ f. rw f out)

@@ -12,17 +12,17 @@ use lib.ListN.{length, get_or, set, replicate, length-set, length-replicate, get
 use lib.Seq.{get_or-set_same, get_or-set_other}
 use Rattle.bits.specs.Parts.{part, splice}
 use Rattle.bits.specs.Stretches.{stretch, Outside, ChangedIn}
-use Rattle.bits.proofs.Parts.{lent, back, length-splice, splice-in, splice-out, length_part, get_d_part, part-cong, part-lent, part-whole, put_whole, getD-zeros}
+use Rattle.bits.proofs.Parts.{lent, back, length-splice, splice-in, splice-out, length_part, get_or-part, part-cong, part-lent, part-whole, put_whole, get_or-zeros}
 use Rattle.protocol.specs.declared.Message.{Message}
-use Rattle.protocol.specs.Net.{capacity, removeAt}
-use Rattle.layout.specs.Layout.{messageSize}
-use Rattle.channel.specs.Slots.{inUse, laid}
-use Rattle.channel.specs.Messages.{messageBytes, messagesOf, channelBytes}
-use Rattle.changes.specs.Removal.{countAndSlots, Removed}
-use Rattle.channel.specs.inner.Channels.{IsChannel, Queue, movedUp}
-use Rattle.channel.proofs.Moved.{length-movedUp, getD-movedUp}
+use Rattle.protocol.specs.Net.{capacity, remove_at}
+use Rattle.layout.specs.Layout.{message_size}
+use Rattle.channel.specs.Slots.{in_use, laid}
+use Rattle.channel.specs.Messages.{message_bytes, messages_of, channel_bytes}
+use Rattle.changes.specs.Removal.{count_and_slots, Removed}
+use Rattle.channel.specs.Inner.Channels.{IsChannel, Queue, moved_up}
+use Rattle.channel.proofs.Moved.{length-moved_up, get_or-moved_up}
 use Rattle.channel.proofs.Slots.{used-and-free, removed, sent}
-use Rattle.channel.proofs.Messages.{length-messageBytes, queue, removed-list, sent-list}
+use Rattle.channel.proofs.Messages.{length-message_bytes, queue, removed-list, sent-list}
 
 -- a part that was lent came back, and the first byte was stored: nothing else changed
 pub changed-back : (n a v : ℕ) (b ys : List ℕ) → length ys ≡ n → a + n ≤ length b → ChangedIn (stretch 0 1 ∷ stretch a n ∷ []) b (set (back a n b ys) 0 v)
@@ -58,7 +58,7 @@ module _ (most w i : ℕ) (b : List ℕ) (Q : Queue most w b) (h : i < get_or b 
   q = 1 + get_or b 0 0 * w - (1 + i * w)
 
   abbrev ys : List ℕ
-  ys = movedUp w (lent (1 + i * w) (1 + get_or b 0 0 * w - (1 + i * w)) b)
+  ys = moved_up w (lent (1 + i * w) (1 + get_or b 0 0 * w - (1 + i * w)) b)
 
   fits : a + q ≤ length b
   fits = omega (arith, (widths w k i h).0, used-and-free most w k Q.at_most, Q.len)
@@ -75,28 +75,28 @@ module _ (most w i : ℕ) (b : List ℕ) (Q : Queue most w b) (h : i < get_or b 
   -- what stands j further on than slot i
   stands : (j : ℕ) → j < q → get_or (set (back a q b ys) 0 (k - 1)) (a + j) 0 ≡ get_or (part q b a) (j + w) 0
   stands j f =
-      let long : length ys ≡ q = length-movedUp w (lent a q b) room ∙ wide in
+      let long : length ys ≡ q = length-moved_up w (lent a q b) room ∙ wide in
       get_or-set_other (back a q b ys) 0 (a + j) (k - 1) 0 (omega arith)
       ∙ ap (λ (l : List ℕ). get_or l (a + j) 0) (put_whole a q b ys long fits)
-      ∙ splice-in b a ys j (omega arith) (omega (arith, fits)) ∙ getD-movedUp w (lent a q b) j
+      ∙ splice-in b a ys j (omega arith) (omega (arith, fits)) ∙ get_or-moved_up w (lent a q b) j
       ∙ ap (λ (l : List ℕ). get_or l (j + w) 0) whole
 
-  is : laid most w (removeAt i (inUse w b)) ≡ set (back a q b ys) 0 (k - 1)
+  is : laid most w (remove_at i (in_use w b)) ≡ set (back a q b ys) 0 (k - 1)
   is = sym (removed most w i b ys Q h (λ _. ys))
 
-  only : ChangedIn (countAndSlots w i k) b (set (back a q b ys) 0 (k - 1))
-  unfolding countAndSlots
+  only : ChangedIn (count_and_slots w i k) b (set (back a q b ys) 0 (k - 1))
+  unfolding count_and_slots
   only =
       let n : q ≡ (k - i) * w = omega (arith, (widths w k i h).0) in
       subst (λ (n : ℕ). ChangedIn (stretch 0 1 ∷ stretch a n ∷ []) b (set (back a q b ys) 0 (k - 1))) n
-      (changed-back q a (k - 1) b ys (length-movedUp w (lent a q b) room ∙ wide) fits)
+      (changed-back q a (k - 1) b ys (length-moved_up w (lent a q b) room ∙ wide) fits)
 
   moved : part ((k - 1 - i) * w) (set (back a q b ys) 0 (k - 1)) a ≡ part ((k - 1 - i) * w) b (1 + (i + 1) * w)
   moved =
       let s : (i + 1) * w ≡ i * w + w = rw add-one (suc-mul i w) in
       part-cong ((k - 1 - i) * w) _ b a (1 + (i + 1) * w)
       (λ j f. let in-q : j + w < q = omega (arith, (widths w k i h).1) in
-      stands j (omega arith) ∙ get_d_part q b a (j + w) in-q ∙ ap (λ (x : ℕ). get_or b x 0) (omega (arith, s)))
+      stands j (omega arith) ∙ get_or-part q b a (j + w) in-q ∙ ap (λ (x : ℕ). get_or b x 0) (omega (arith, s)))
 
   cleared : part w (set (back a q b ys) 0 (k - 1)) (1 + (k - 1) * w) ≡ replicate w 0
   cleared =
@@ -106,10 +106,10 @@ module _ (most w i : ℕ) (b : List ℕ) (Q : Queue most w b) (h : i < get_or b 
       (λ j f. let past : q ≤ n + j + w = omega (arith, (widths w k i h).1) in
       ap (λ (x : ℕ). get_or (set (back a q b ys) 0 (k - 1)) x 0) (omega (arith, e))
       ∙ stands (n + j) (omega (arith, (widths w k i h).1))
-      ∙ get_or-eq_default (part q b a) 0 (rw (length_part q b a) past) ∙ sym (getD-zeros w (0 + j)))
+      ∙ get_or-eq_default (part q b a) 0 (rw (length_part q b a) past) ∙ sym (get_or-zeros w (0 + j)))
       ∙ part-whole w (replicate w 0) (length-replicate w 0)
 
-  pub removal : Removed w k i b (laid most w (removeAt i (inUse w b)))
+  pub removal : Removed w k i b (laid most w (remove_at i (in_use w b)))
   removal = subst (Removed w k i b) (sym is) (record {
     only = only;
     count = get_or-set_same (back a q b ys) 0 (k - 1) 0 (omega (arith, only.long, length-set (back a q b ys) 0 (k - 1), Q.len));
@@ -119,20 +119,20 @@ module _ (most w i : ℕ) (b : List ℕ) (Q : Queue most w b) (h : i < get_or b 
 
 -- ---- of messages
 module _ (b : List ℕ) (h : IsChannel b) where
-  pub message-removed : (i : ℕ) → i < length (messagesOf b) → Removed messageSize (length (messagesOf b)) i b (channelBytes (removeAt i (messagesOf b)))
+  pub message-removed : (i : ℕ) → i < length (messages_of b) → Removed message_size (length (messages_of b)) i b (channel_bytes (remove_at i (messages_of b)))
   message-removed i f =
-      subst (Removed messageSize (length (messagesOf b)) i b) (removed-list b h i)
-      (subst (λ (k : ℕ). Removed messageSize k i b (laid capacity messageSize (removeAt i (inUse messageSize b)))) h.said
-      (removal capacity messageSize i b (queue b h) (rw h.said f)))
+      subst (Removed message_size (length (messages_of b)) i b) (removed-list b h i)
+      (subst (λ (k : ℕ). Removed message_size k i b (laid capacity message_size (remove_at i (in_use message_size b)))) h.said
+      (removal capacity message_size i b (queue b h) (rw h.said f)))
 
   -- it comes behind the k that are there, in slot k
-  pub message-sent : (m : Message) → let k = length (messagesOf b) in k < capacity → ChangedIn (countAndSlots messageSize k (k + 1)) b (channelBytes (messagesOf b ++ (m ∷ [])))
-  unfolding countAndSlots
+  pub message-sent : (m : Message) → let k = length (messages_of b) in k < capacity → ChangedIn (count_and_slots message_size k (k + 1)) b (channel_bytes (messages_of b ++ (m ∷ [])))
+  unfolding count_and_slots
   message-sent m f =
-      let k = length (messagesOf b) in
+      let k = length (messages_of b) in
       let few : get_or b 0 0 < capacity = omega (arith, h.said, f) in
       let one : k + 1 - k ≡ 1 = omega arith in
-      rw one (subst (λ (l : List ℕ). ChangedIn (stretch 0 1 ∷ stretch (1 + k * messageSize) messageSize ∷ []) b l)
-      (ap (λ (x : ℕ). set (back (1 + x * messageSize) messageSize b (messageBytes m)) 0 (get_or b 0 0 + 1)) (sym h.said)
-      ∙ sent capacity messageSize b (messageBytes m) (queue b h) few (length-messageBytes m) ∙ sent-list b h m)
-      (changed-back messageSize (1 + k * messageSize) (get_or b 0 0 + 1) b (messageBytes m) (length-messageBytes m) (omega (arith, h.long, f))))
+      rw one (subst (λ (l : List ℕ). ChangedIn (stretch 0 1 ∷ stretch (1 + k * message_size) message_size ∷ []) b l)
+      (ap (λ (x : ℕ). set (back (1 + x * message_size) message_size b (message_bytes m)) 0 (get_or b 0 0 + 1)) (sym h.said)
+      ∙ sent capacity message_size b (message_bytes m) (queue b h) few (length-message_bytes m) ∙ sent-list b h m)
+      (changed-back message_size (1 + k * message_size) (get_or b 0 0 + 1) b (message_bytes m) (length-message_bytes m) (omega (arith, h.long, f))))

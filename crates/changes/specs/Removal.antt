@@ -5,13 +5,13 @@ use Rattle.bits.specs.Parts.{part}
 use Rattle.bits.specs.Stretches.{Stretch, stretch, ChangedIn}
 
 -- the count, and the slots of w bytes from i to k - 1
-unfoldable pub countAndSlots : (w i k : ℕ) → List Stretch
-countAndSlots w i k = stretch 0 1 ∷ stretch (1 + i * w) ((k - i) * w) ∷ []
+unfoldable pub count_and_slots : (w i k : ℕ) → List Stretch
+count_and_slots w i k = stretch 0 1 ∷ stretch (1 + i * w) ((k - i) * w) ∷ []
 
 -- b' is b, which holds k things, without the i-th
 pub record Removed (w k i : ℕ) (b b' : List ℕ) : Type 0 where
   -- nothing changed but the count and the slots from i to k - 1
-  pub only : ChangedIn (countAndSlots w i k) b b'
+  pub only : ChangedIn (count_and_slots w i k) b b'
   -- the count is one less
   pub count : get_or b' 0 0 ≡ k - 1
   -- the slots behind the i-th, (k - 1 - i) * w bytes, moved up by one slot

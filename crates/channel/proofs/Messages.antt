@@ -12,76 +12,76 @@ use Rattle.bits.specs.Sums.{bit}
 use Rattle.bits.specs.Numbers.{Bytes, bytes, number, onto}
 use Rattle.bits.specs.Parts.{part, number_at, splice}
 use Rattle.bits.proofs.Numbers.{length-bytes, number-bytes}
-use Rattle.bits.proofs.Parts.{lent, back, bytes-numberAt, length_part, part-Bytes, part-lent, part-all, put_whole}
+use Rattle.bits.proofs.Parts.{lent, back, bytes-number_at, length_part, part-Bytes, part-lent, part-all, put_whole}
 use Rattle.protocol.specs.declared.Message.{Message}
-use Rattle.protocol.specs.Net.{capacity, removeAt}
+use Rattle.protocol.specs.Net.{capacity, remove_at}
 use Rattle.protocol.specs.Entries.{is_of, count_of}
-use Rattle.protocol.specs.Rules.{noMessage}
-use Rattle.protocol.proofs.laws.Maps.{map-append, map-removeAt}
-use Rattle.protocol.proofs.laws.Messages.{count-snoc}
-use Rattle.layout.specs.Layout.{messageSize, channelSize}
-use Rattle.channel.specs.Slots.{inUse, laid}
-use Rattle.channel.specs.inner.Channels.{Queue}
-use Rattle.channel.specs.Messages.{messageOf, messageBytes, messagesOf, channelBytes}
-use Rattle.channel.specs.inner.Channels.{IsChannel}
+use Rattle.protocol.specs.Rules.{no_message}
+use Rattle.protocol.proofs.Laws.Maps.{map-append, map-remove_at}
+use Rattle.protocol.proofs.Laws.Messages.{count-snoc}
+use Rattle.layout.specs.Layout.{message_size, channel_size}
+use Rattle.channel.specs.Slots.{in_use, laid}
+use Rattle.channel.specs.Inner.Channels.{Queue}
+use Rattle.channel.specs.Messages.{message_of, message_bytes, messages_of, channel_bytes}
+use Rattle.channel.specs.Inner.Channels.{IsChannel}
 use Rattle.channel.proofs.Slots.{nth-part}
 use Rattle.channel.proofs.Things as things
 
 -- ---- one message
-pub length-messageBytes : (m : Message) → length (messageBytes m) ≡ messageSize
-length-messageBytes m = ap (λ (n : ℕ). suc (suc (suc n))) (length-bytes 4 m.clock)
+pub length-message_bytes : (m : Message) → length (message_bytes m) ≡ message_size
+length-message_bytes m = ap (λ (n : ℕ). suc (suc (suc n))) (length-bytes 4 m.clock)
 
 -- a message whose clock fits comes back from its slot, and the bytes of a slot from its message
-pub message-back : (m : Message) → m.clock < 256 ^ 4 → messageOf (messageBytes m) ≡ m
+pub message-back : (m : Message) → m.clock < 256 ^ 4 → message_of (message_bytes m) ≡ m
 unfolding number_at part bytes
 message-back m h = λ i. record { kind = m.kind; group = m.group; connected = m.connected; clock = number-bytes 4 m.clock h i }
 
-pub slot-back : (s : List ℕ) → length s ≡ messageSize → Bytes s → messageBytes (messageOf s) ≡ s
+pub slot-back : (s : List ℕ) → length s ≡ message_size → Bytes s → message_bytes (message_of s) ≡ s
 unfolding part
-slot-back s e h = rw (bytes-numberAt 4 s 3 h) (rw e at (part-all s))
+slot-back s e h = rw (bytes-number_at 4 s 3 h) (rw e at (part-all s))
 
 -- the message of the slot behind the one at `at`, written there
-pub moved-one : (at : ℕ) (s : List ℕ) (m : Message) (t : List ℕ) → Bytes s → at + messageSize + messageSize ≤ length s
-    → m ≡ messageOf (lent (at + messageSize) (at + messageSize + messageSize - (at + messageSize)) s) → t ≡ messageBytes m
-    → back at (at + messageSize - at) s t ≡ splice s at (part messageSize s (at + messageSize))
+pub moved-one : (at : ℕ) (s : List ℕ) (m : Message) (t : List ℕ) → Bytes s → at + message_size + message_size ≤ length s
+    → m ≡ message_of (lent (at + message_size) (at + message_size + message_size - (at + message_size)) s) → t ≡ message_bytes m
+    → back at (at + message_size - at) s t ≡ splice s at (part message_size s (at + message_size))
 moved-one at s m t h f hm ht =
-    let b = part messageSize s (at + messageSize) in
-    let slot : lent (at + messageSize) (at + messageSize + messageSize - (at + messageSize)) s ≡ b = rw (add-sub_cancel_left (at + messageSize) messageSize) (part-lent messageSize s (at + messageSize) f) in
-    let e : t ≡ b = ht ∙ ap messageBytes (hm ∙ ap messageOf slot) ∙ slot-back b (length_part messageSize s (at + messageSize)) (part-Bytes messageSize s (at + messageSize) h) in
-    rw (add-sub_cancel_left at messageSize, e) (put_whole at messageSize s b (length_part messageSize s (at + messageSize)) (omega arith))
+    let b = part message_size s (at + message_size) in
+    let slot : lent (at + message_size) (at + message_size + message_size - (at + message_size)) s ≡ b = rw (add-sub_cancel_left (at + message_size) message_size) (part-lent message_size s (at + message_size) f) in
+    let e : t ≡ b = ht ∙ ap message_bytes (hm ∙ ap message_of slot) ∙ slot-back b (length_part message_size s (at + message_size)) (part-Bytes message_size s (at + message_size) h) in
+    rw (add-sub_cancel_left at message_size, e) (put_whole at message_size s b (length_part message_size s (at + message_size)) (omega arith))
 
-no-message : messageOf [] ≡ noMessage
+no-message : message_of [] ≡ no_message
 unfolding number_at part number onto
 no-message = refl
 
 -- ---- the messages of a channel
-pub length-messages : (b : List ℕ) → length (messagesOf b) ≡ get_or b 0 0
-length-messages = things.length-read capacity messageSize messageBytes messageOf
+pub length-messages : (b : List ℕ) → length (messages_of b) ≡ get_or b 0 0
+length-messages = things.length-read capacity message_size message_bytes message_of
 
-pub length-channel : (ms : List Message) → length ms ≤ capacity → length (channelBytes ms) ≡ channelSize
-length-channel = things.length-written capacity messageSize messageBytes messageOf length-messageBytes
+pub length-channel : (ms : List Message) → length ms ≤ capacity → length (channel_bytes ms) ≡ channel_size
+length-channel = things.length-written capacity message_size message_bytes message_of length-message_bytes
 
 -- what the one form gives
 module _ (b : List ℕ) (h : IsChannel b) where
-  slots-are : inUse messageSize b ≡ map messageBytes (messagesOf b)
-  slots-are = ap (inUse messageSize) h.form ∙ things.slots-written capacity messageSize messageBytes messageOf length-messageBytes (messagesOf b)
+  slots-are : in_use message_size b ≡ map message_bytes (messages_of b)
+  slots-are = ap (in_use message_size) h.form ∙ things.slots-written capacity message_size message_bytes message_of length-message_bytes (messages_of b)
 
-  pub queue : Queue capacity messageSize b
-  queue = subst (Queue capacity messageSize) (sym h.form) (things.queue-written capacity messageSize messageBytes messageOf length-messageBytes (messagesOf b) h.at_most)
+  pub queue : Queue capacity message_size b
+  queue = subst (Queue capacity message_size) (sym h.form) (things.queue-written capacity message_size message_bytes message_of length-message_bytes (messages_of b) h.at_most)
 
-  pub removed-list : (i : ℕ) → laid capacity messageSize (removeAt i (inUse messageSize b)) ≡ channelBytes (removeAt i (messagesOf b))
-  removed-list i = ap (λ (l : List (List ℕ)). laid capacity messageSize (removeAt i l)) slots-are ∙ ap (laid capacity messageSize) (sym (map-removeAt messageBytes i (messagesOf b)))
+  pub removed-list : (i : ℕ) → laid capacity message_size (remove_at i (in_use message_size b)) ≡ channel_bytes (remove_at i (messages_of b))
+  removed-list i = ap (λ (l : List (List ℕ)). laid capacity message_size (remove_at i l)) slots-are ∙ ap (laid capacity message_size) (sym (map-remove_at message_bytes i (messages_of b)))
 
-  pub sent-list : (m : Message) → laid capacity messageSize (inUse messageSize b ++ (messageBytes m ∷ [])) ≡ channelBytes (messagesOf b ++ (m ∷ []))
-  sent-list m = ap (λ (l : List (List ℕ)). laid capacity messageSize (l ++ (messageBytes m ∷ []))) slots-are ∙ ap (laid capacity messageSize) (sym (map-append messageBytes (messagesOf b) (m ∷ [])))
+  pub sent-list : (m : Message) → laid capacity message_size (in_use message_size b ++ (message_bytes m ∷ [])) ≡ channel_bytes (messages_of b ++ (m ∷ []))
+  sent-list m = ap (λ (l : List (List ℕ)). laid capacity message_size (l ++ (message_bytes m ∷ []))) slots-are ∙ ap (laid capacity message_size) (sym (map-append message_bytes (messages_of b) (m ∷ [])))
 
-  pub nth-message : (i : ℕ) → i < get_or b 0 0 → messageOf (lent (1 + i * messageSize) messageSize b) ≡ get_or (messagesOf b) i noMessage
-  nth-message i l = ap messageOf (nth-part capacity messageSize i b queue l) ∙ sym (get_or-map messageOf (inUse messageSize b) i []) ∙ ap (get_or (messagesOf b) i) no-message
+  pub nth-message : (i : ℕ) → i < get_or b 0 0 → message_of (lent (1 + i * message_size) message_size b) ≡ get_or (messages_of b) i no_message
+  nth-message i l = ap message_of (nth-part capacity message_size i b queue l) ∙ sym (get_or-map message_of (in_use message_size b) i []) ∙ ap (get_or (messages_of b) i) no-message
 
 -- ---- counting: one message more
 pub count_turn : (k g : ℕ) (ms : List Message) (i : ℕ) → i < length ms
-    → count_of k g (take (i + 1) ms) ≡ count_of k g (take i ms) + bit (is_of k g (get_or ms i noMessage))
-count_turn k g ms i h = rw (add-one, take-suc ms i noMessage h) (count-snoc k g (take i ms) (get_or ms i noMessage))
+    → count_of k g (take (i + 1) ms) ≡ count_of k g (take i ms) + bit (is_of k g (get_or ms i no_message))
+count_turn k g ms i h = rw (add-one, take-suc ms i no_message h) (count-snoc k g (take i ms) (get_or ms i no_message))
 
 pub count-take : (k g i : ℕ) (ms : List Message) → count_of k g (take i ms) ≤ count_of k g ms
 unfolding count_of

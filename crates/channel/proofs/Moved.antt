@@ -7,8 +7,8 @@ use native.Mathlib.Omega.{arith}
 use lib.ListN.{length, take, drop, get_or, set, replicate, length-append, length-drop, length-replicate}
 use lib.Seq.{length-take-le, get_or-append-add, get_or-drop, drop-length, drop-drop, take_at, drop_at, sets, sets-eq}
 use Rattle.bits.specs.Parts.{part, splice}
-use Rattle.bits.proofs.Parts.{lent, back, part-cong, getD-zeros}
-use Rattle.channel.specs.inner.Channels.{movedUp}
+use Rattle.bits.proofs.Parts.{lent, back, part-cong, get_or-zeros}
+use Rattle.channel.specs.Inner.Channels.{moved_up}
 
 -- the first j of t, then d from j on
 abbrev pub upto : ℕ → List ℕ → List ℕ → List ℕ
@@ -45,34 +45,34 @@ upto-ahead j k t d h =
     let g : get_or (take j t ++ drop j d) (length (take j t) + k) 0 ≡ get_or (drop j d) k 0 = get_or-append-add (take j t) (drop j d) k 0 in
     (rw e at g) ∙ get_or-drop j d k 0
 
-pub length-movedUp : (w : ℕ) (d : List ℕ) → w ≤ length d → length (movedUp w d) ≡ length d
-unfolding movedUp
-length-movedUp w d h = simp (length-append, length-drop, length-replicate) (omega arith)
+pub length-moved_up : (w : ℕ) (d : List ℕ) → w ≤ length d → length (moved_up w d) ≡ length d
+unfolding moved_up
+length-moved_up w d h = simp (length-append, length-drop, length-replicate) (omega arith)
 
-pub getD-append-zeros : (xs : List ℕ) (n i : ℕ) → get_or (xs ++ replicate n 0) i 0 ≡ get_or xs i 0
-getD-append-zeros [] n i = getD-zeros n i
-getD-append-zeros (x ∷ xs) n zero = refl
-getD-append-zeros (x ∷ xs) n (suc i) = getD-append-zeros xs n i
+pub get_or-append-zeros : (xs : List ℕ) (n i : ℕ) → get_or (xs ++ replicate n 0) i 0 ≡ get_or xs i 0
+get_or-append-zeros [] n i = get_or-zeros n i
+get_or-append-zeros (x ∷ xs) n zero = refl
+get_or-append-zeros (x ∷ xs) n (suc i) = get_or-append-zeros xs n i
 
 -- past the end too, where both are 0
-pub getD-movedUp : (w : ℕ) (d : List ℕ) (j : ℕ) → get_or (movedUp w d) j 0 ≡ get_or d (j + w) 0
-unfolding movedUp
-getD-movedUp w d j = getD-append-zeros (drop w d) w j ∙ get_or-drop w d j 0 ∙ ap (λ (k : ℕ). get_or d k 0) (add_comm w j)
+pub get_or-moved_up : (w : ℕ) (d : List ℕ) (j : ℕ) → get_or (moved_up w d) j 0 ≡ get_or d (j + w) 0
+unfolding moved_up
+get_or-moved_up w d j = get_or-append-zeros (drop w d) w j ∙ get_or-drop w d j 0 ∙ ap (λ (k : ℕ). get_or d k 0) (add_comm w j)
 
 -- a turn of the loop that moves: the w elements that stand w further on than a are put at a
-pub moved-turn : (w a : ℕ) (d s : List ℕ) → s ≡ upto a (movedUp w d) d → a + w + w ≤ length d → splice s a (part w s (a + w)) ≡ upto (a + w) (movedUp w d) d
+pub moved-turn : (w a : ℕ) (d s : List ℕ) → s ≡ upto a (moved_up w d) d → a + w + w ≤ length d → splice s a (part w s (a + w)) ≡ upto (a + w) (moved_up w d) d
 moved-turn w a d s hs h =
-    let n : length (movedUp w d) ≡ length d = length-movedUp w d (omega arith) in
-    let ahead : part w s (a + w) ≡ part w (movedUp w d) a = part-cong w s (movedUp w d) (a + w) a
+    let n : length (moved_up w d) ≡ length d = length-moved_up w d (omega arith) in
+    let ahead : part w s (a + w) ≡ part w (moved_up w d) a = part-cong w s (moved_up w d) (a + w) a
     (λ k b. let e : a + w + k ≡ a + (w + k) = omega arith in
     let f : a + (w + k) ≡ a + k + w = omega arith in
-    ap (λ (i : ℕ). get_or s i 0) e ∙ rw hs (upto-ahead a (w + k) (movedUp w d) d (omega arith)) ∙ ap (λ (i : ℕ). get_or d i 0) f ∙ sym (getD-movedUp w d (a + k))) in
-    rw (ahead, hs) (upto_turn w a (movedUp w d) d (omega arith) (omega arith))
+    ap (λ (i : ℕ). get_or s i 0) e ∙ rw hs (upto-ahead a (w + k) (moved_up w d) d (omega arith)) ∙ ap (λ (i : ℕ). get_or d i 0) f ∙ sym (get_or-moved_up w d (a + k))) in
+    rw (ahead, hs) (upto_turn w a (moved_up w d) d (omega arith) (omega arith))
 
 -- the loop is done, and the v elements that are left, as many as it moved by, were lent on and filled with zeros
-pub moved-cleared : (w k v : ℕ) (d s z : List ℕ) → s ≡ upto k (movedUp w d) d → k + w ≡ length d → v ≡ w
-    → z ≡ replicate (length (lent k v s)) 0 → back k v s z ≡ movedUp w d
-unfolding movedUp
+pub moved-cleared : (w k v : ℕ) (d s z : List ℕ) → s ≡ upto k (moved_up w d) d → k + w ≡ length d → v ≡ w
+    → z ≡ replicate (length (lent k v s)) 0 → back k v s z ≡ moved_up w d
+unfolding moved_up
 moved-cleared w k v d s z hs n hv hz =
     let m : length (drop w d) ≡ k = length-drop w d ∙ omega arith in
     let kept : take k (drop w d ++ replicate w 0) ≡ drop w d = take_at (drop w d) (replicate w 0) k m in

@@ -11,9 +11,9 @@ use native.Mathlib.Omega.{arith}
 use lib.ListN.{length, take, drop, get_or, set, replicate, length-append, length-drop, length-replicate, replicate-append-replicate, take-append-drop}
 use lib.Seq.{take_at, drop_at, take-add, drop-drop, length-take-le}
 use Rattle.bits.proofs.Parts.{lent, back}
-use Rattle.protocol.specs.Net.{removeAt}
-use Rattle.channel.specs.Slots.{slots, flat, laid, inUse}
-use Rattle.channel.specs.inner.Channels.{Queue, Sized, movedUp}
+use Rattle.protocol.specs.Net.{remove_at}
+use Rattle.channel.specs.Slots.{slots, flat, laid, in_use}
+use Rattle.channel.specs.Inner.Channels.{Queue, Sized, moved_up}
 
 -- ---- slots, one after the other
 pub length-slots : (w n : ℕ) (s : List ℕ) → length (slots w n s) ≡ n
@@ -53,8 +53,8 @@ flat_append [] ys = refl
 flat_append (m ∷ ms) ys = rw (flat_append ms ys, append_assoc)
 
 -- decode of encode
-pub slots-of-bytes : (most w : ℕ) (ms : List (List ℕ)) → Sized w ms → inUse w (laid most w ms) ≡ ms
-unfolding inUse laid
+pub slots-of-bytes : (most w : ℕ) (ms : List (List ℕ)) → Sized w ms → in_use w (laid most w ms) ≡ ms
+unfolding in_use laid
 slots-of-bytes most w ms h = slots-flat w ms (replicate ((most - length ms) * w) 0) h
 
 -- what Queue says of a count and the bytes after it
@@ -68,8 +68,8 @@ pub body-clear : (most w k : ℕ) (t : List ℕ) → Queue most w (k ∷ t) → 
 body-clear most w k t h = rw one-add at h.clear
 
 -- encode of decode
-pub bytes-of-slots : (most w : ℕ) (b : List ℕ) → Queue most w b → laid most w (inUse w b) ≡ b
-unfolding inUse laid
+pub bytes-of-slots : (most w : ℕ) (b : List ℕ) → Queue most w b → laid most w (in_use w b) ≡ b
+unfolding in_use laid
 bytes-of-slots most w [] h = let z : 0 ≡ 1 + most * w = h.len in absurd (omega arith)
 bytes-of-slots most w (k ∷ t) h =
     rw (length-slots w k t, flat-slots w k t (used_le most w k t h), ← body-clear most w k t h, take-append-drop)
@@ -88,10 +88,10 @@ shaped-bytes most w ms h few =
 
 -- ---- removing one
 
-pub removeAt-split : {A : Type 0} (xs : List A) (m : A) (ys : List A) → removeAt (length xs) (xs ++ m ∷ ys) ≡ xs ++ ys
-unfolding removeAt
-removeAt-split [] m ys = refl
-removeAt-split (x ∷ xs) m ys = rw (removeAt-split xs m ys)
+pub remove_at-split : {A : Type 0} (xs : List A) (m : A) (ys : List A) → remove_at (length xs) (xs ++ m ∷ ys) ≡ xs ++ ys
+unfolding remove_at
+remove_at-split [] m ys = refl
+remove_at-split (x ∷ xs) m ys = rw (remove_at-split xs m ys)
 
 pub sized-left : (w : ℕ) (xs ys : List (List ℕ)) → Sized w (xs ++ ys) → Sized w xs
 sized-left w [] ys h = tt
@@ -110,8 +110,8 @@ split-slots (suc i) (x ∷ ms) h =
 
 -- the bytes P, M, R, Z, of which M and R were moved to the left over M
 pub cut : (P M R Z : List ℕ) (p q w : ℕ) → length P ≡ p → length M ≡ w → length (M ++ R) ≡ q
-    → back p q (P ++ (M ++ (R ++ Z))) (movedUp w (lent p q (P ++ (M ++ (R ++ Z))))) ≡ P ++ (R ++ (replicate w 0 ++ Z))
-unfolding movedUp
+    → back p q (P ++ (M ++ (R ++ Z))) (moved_up w (lent p q (P ++ (M ++ (R ++ Z))))) ≡ P ++ (R ++ (replicate w 0 ++ Z))
+unfolding moved_up
 cut P M R Z p q w hp hm hq =
     rw (take_at P (M ++ (R ++ Z)) p hp, drop_at P (M ++ (R ++ Z)) p hp, ← append_assoc M R Z, take_at (M ++ R) Z q hq, drop_at (M ++ R) Z q hq, drop_at M R w hm)
     (simp append_assoc)
@@ -120,7 +120,7 @@ cut P M R Z p q w hp hm hq =
 pub removed-body : (most w : ℕ) (xs : List (List ℕ)) (m : List ℕ) (ys : List (List ℕ)) (p q : ℕ) → Sized w (xs ++ m ∷ ys) → length (xs ++ m ∷ ys) ≤ most
     → p ≡ length xs * w → q ≡ suc (length ys) * w
     → (t : List ℕ) → t ≡ flat (xs ++ m ∷ ys) ++ replicate ((most - length (xs ++ m ∷ ys)) * w) 0
-    → back p q t (movedUp w (lent p q t)) ≡ flat (xs ++ ys) ++ replicate ((most - length (xs ++ ys)) * w) 0
+    → back p q t (moved_up w (lent p q t)) ≡ flat (xs ++ ys) ++ replicate ((most - length (xs ++ ys)) * w) 0
 unfolding flat
 removed-body most w xs m ys p q sz few hp hq t ht =
     let z : List ℕ = replicate ((most - length (xs ++ m ∷ ys)) * w) 0 in
@@ -131,19 +131,19 @@ removed-body most w xs m ys p q sz few hp hq t ht =
     (rw (replicate-append-replicate w, add_comm w))
 
 pub body-of-slots : (most w k : ℕ) (t : List ℕ) → Queue most w (k ∷ t) → t ≡ flat (slots w k t) ++ replicate ((most - length (slots w k t)) * w) 0
-unfolding inUse laid
+unfolding in_use laid
 body-of-slots most w k t h = ap (drop 1) (sym (bytes-of-slots most w (k ∷ t) h))
 
 pub removed-cons : (most w i k q : ℕ) (t : List ℕ) → Queue most w (k ∷ t) → q ≡ 1 + k * w - suc (i * w)
     → (xs : List (List ℕ)) (m : List ℕ) (ys : List (List ℕ)) → slots w k t ≡ xs ++ m ∷ ys → length xs ≡ i
-    → (k - 1) ∷ back (i * w) q t (movedUp w (lent (i * w) q t)) ≡ laid most w (removeAt i (slots w k t))
+    → (k - 1) ∷ back (i * w) q t (moved_up w (lent (i * w) q t)) ≡ laid most w (remove_at i (slots w k t))
 unfolding laid
 removed-cons most w i k q t h hq xs m ys e li =
     let lk : length (xs ++ m ∷ ys) ≡ k = ap length (sym e) ∙ length-slots w k t in
     let n : k - 1 ≡ length (xs ++ ys) = omega (arith, length-append xs (m ∷ ys), length-append xs ys) in
     let sz : Sized w (xs ++ m ∷ ys) = rw e at (sized-slots w k t (used_le most w k t h)) in
     let kw : k * w ≡ length xs * w + suc (length ys) * w = rw (← lk, length-append, add-mul) in
-    rw (e, ← li, removeAt-split xs m ys, n)
+    rw (e, ← li, remove_at-split xs m ys, n)
     (ap (λ (l : List ℕ). length (xs ++ ys) ∷ l)
     (removed-body most w xs m ys (length xs * w) q sz (omega (arith, h.at_most)) refl
     (hq ∙ rw (kw, ← li) (omega arith))
@@ -152,9 +152,9 @@ removed-cons most w i k q t h hq xs m ys e li =
 
 -- a channel's bytes in which the part from slot i to the last in use was moved w to the left, and the count lowered: one message less
 pub removed : (most w i : ℕ) (b last : List ℕ) → Queue most w b → i < get_or b 0 0
-    → last ≡ movedUp w (lent (1 + i * w) (1 + get_or b 0 0 * w - (1 + i * w)) b)
-    → set (back (1 + i * w) (1 + get_or b 0 0 * w - (1 + i * w)) b last) 0 (get_or b 0 0 - 1) ≡ laid most w (removeAt i (inUse w b))
-unfolding inUse
+    → last ≡ moved_up w (lent (1 + i * w) (1 + get_or b 0 0 * w - (1 + i * w)) b)
+    → set (back (1 + i * w) (1 + get_or b 0 0 * w - (1 + i * w)) b last) 0 (get_or b 0 0 - 1) ≡ laid most w (remove_at i (in_use w b))
+unfolding in_use
 removed most w i [] last h hi hl = absurd (not-suc-le-zero hi)
 removed most w i (k ∷ t) last h hi hl =
     let r = split-slots i (slots w k t) (rw length-slots hi) in
@@ -175,8 +175,8 @@ sent-body most w ms s p sz hs few hp t ht =
     rw (e, take_at (flat ms) (replicate w 0 ++ z) p long, drop_at (flat ms) (replicate w 0 ++ z) p long, drop_at (replicate w 0) z w (length-replicate w 0), flat_append, append_assoc, append-nil)
 
 pub sent : (most w : ℕ) (b s : List ℕ) → Queue most w b → get_or b 0 0 < most → length s ≡ w
-    → set (back (1 + get_or b 0 0 * w) w b s) 0 (get_or b 0 0 + 1) ≡ laid most w (inUse w b ++ (s ∷ []))
-unfolding inUse laid
+    → set (back (1 + get_or b 0 0 * w) w b s) 0 (get_or b 0 0 + 1) ≡ laid most w (in_use w b ++ (s ∷ []))
+unfolding in_use laid
 sent most w [] s h hi hs = let z : 0 ≡ 1 + most * w = h.len in absurd (omega arith)
 sent most w (k ∷ t) s h hi hs =
     let ms = slots w k t in
@@ -194,11 +194,11 @@ nth-slot w zero i s h = absurd (not-suc-le-zero h)
 nth-slot w (suc n) zero s h = rw zero-mul
 nth-slot w (suc n) (suc i) s h = nth-slot w n i (drop w s) (le_of_suc-le-suc h) ∙ rw (drop-drop, suc-mul, add_comm w)
 
-pub nth-part : (most w i : ℕ) (b : List ℕ) → Queue most w b → i < get_or b 0 0 → lent (1 + i * w) w b ≡ get_or (inUse w b) i []
-unfolding inUse
+pub nth-part : (most w i : ℕ) (b : List ℕ) → Queue most w b → i < get_or b 0 0 → lent (1 + i * w) w b ≡ get_or (in_use w b) i []
+unfolding in_use
 nth-part most w i [] h hi = absurd (not-suc-le-zero hi)
 nth-part most w i (k ∷ t) h hi = rw one-add (sym (nth-slot w k i t hi))
 
-pub length-in-use : (w : ℕ) (b : List ℕ) → length (inUse w b) ≡ get_or b 0 0
-unfolding inUse
+pub length-in-use : (w : ℕ) (b : List ℕ) → length (in_use w b) ≡ get_or b 0 0
+unfolding in_use
 length-in-use w b = length-slots w (get_or b 0 0) (drop 1 b)

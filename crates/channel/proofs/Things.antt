@@ -5,8 +5,8 @@ use mathlib.Core.List.{List, [], ◌∷◌, map}
 use Prim.Native.Nat.{ℕ, ◌+◌, ◌*◌, ◌≤◌}
 use lib.ListN.{length, get_or, length-map}
 use Rattle.protocol.specs.Shaped.{All, none, both}
-use Rattle.channel.specs.Slots.{inUse, laid, read_all, write_all}
-use Rattle.channel.specs.inner.Channels.{Queue, Sized}
+use Rattle.channel.specs.Slots.{in_use, laid, read_all, write_all}
+use Rattle.channel.specs.Inner.Channels.{Queue, Sized}
 use Rattle.channel.proofs.Slots.{length-in-use, slots-of-bytes, bytes-of-slots, shaped-bytes}
 
 -- there and back, one by one
@@ -16,9 +16,9 @@ map_back f g (both h hs) = λ i. h i ∷ map_back f g hs i
 
 module _ {A : Type 0} (most w : ℕ) (out : A → List ℕ) (into : List ℕ → A) where
   pub length-read : (b : List ℕ) → length (read_all w into b) ≡ get_or b 0 0
-  length-read b = length-map (inUse w b) into ∙ length-in-use w b
+  length-read b = length-map (in_use w b) into ∙ length-in-use w b
 
-  pub written_back : (b : List ℕ) → Queue most w b → All (λ s. out (into s) ≡ s) (inUse w b) → write_all most w out (read_all w into b) ≡ b
+  pub written_back : (b : List ℕ) → Queue most w b → All (λ s. out (into s) ≡ s) (in_use w b) → write_all most w out (read_all w into b) ≡ b
   written_back b q h = ap (laid most w) (map_back into out h) ∙ bytes-of-slots most w b q
 
   -- where each is written in w bytes
@@ -27,7 +27,7 @@ module _ {A : Type 0} (most w : ℕ) (out : A → List ℕ) (into : List ℕ →
     sized [] = tt
     sized (x ∷ l) = (long x, sized l)
 
-    pub slots-written : (l : List A) → inUse w (write_all most w out l) ≡ map out l
+    pub slots-written : (l : List A) → in_use w (write_all most w out l) ≡ map out l
     slots-written l = slots-of-bytes most w (map out l) (sized l)
 
     pub queue-written : (l : List A) → length l ≤ most → Queue most w (write_all most w out l)

@@ -1,4 +1,4 @@
 -- A channel's bytes.
 pub mod Slots
 pub mod Messages
-pub mod inner
+pub mod Inner

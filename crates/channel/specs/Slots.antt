@@ -16,14 +16,14 @@ unfoldable pub laid : ℕ → ℕ → List (List ℕ) → List ℕ
 laid most w ms = length ms ∷ (flat ms ++ replicate ((most - length ms) * w) 0)
 
 -- the slots in use of a channel's bytes
-unfoldable pub inUse : ℕ → List ℕ → List (List ℕ)
-inUse w b = slots w (get_or b 0 0) (drop 1 b)
+unfoldable pub in_use : ℕ → List ℕ → List (List ℕ)
+in_use w b = slots w (get_or b 0 0) (drop 1 b)
 
 -- ---- things in slots: `out` writes one, `into` reads it
 module _ {A : Type 0} where
   -- the things of a channel's bytes, oldest first
   abbrev pub read_all : (w : ℕ) → (List ℕ → A) → List ℕ → List A
-  read_all w into b = map into (inUse w b)
+  read_all w into b = map into (in_use w b)
 
   -- the bytes of a channel that holds these things
   abbrev pub write_all : (most w : ℕ) → (A → List ℕ) → List A → List ℕ

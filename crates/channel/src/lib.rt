@@ -1,13 +1,15 @@
 // A channel's bytes: a count, and then the messages, oldest first.
+#![tactic(auto)]
+
 ghost use Rattle.std.specs.Prelude.{◌≡◌, [], ◌∷◌, ◌++◌, ◌+◌, ◌*◌, ◌≤◌, ◌<◌, eqb, length, get_or};
 ghost use Rattle.bits.specs.Parts.{part, splice};
-ghost use Rattle.protocol.specs.Net.{capacity, removeAt};
+ghost use Rattle.protocol.specs.Net.{capacity, remove_at};
 ghost use Rattle.protocol.specs.Entries.{is_of, count_of};
-ghost use Rattle.protocol.specs.Rules.{noMessage};
-ghost use Rattle.layout.specs.Layout.{messageSize};
-ghost use Rattle.channel.specs.inner.Channels.{movedUp};
-ghost use Rattle.channel.specs.Messages.{messageOf, messageBytes, messagesOf, channelBytes};
-ghost use Rattle.channel.specs.inner.Channels.{IsChannel};
+ghost use Rattle.protocol.specs.Rules.{no_message};
+ghost use Rattle.layout.specs.Layout.{message_size};
+ghost use Rattle.channel.specs.Inner.Channels.{moved_up};
+ghost use Rattle.channel.specs.Messages.{message_of, message_bytes, messages_of, channel_bytes};
+ghost use Rattle.channel.specs.Inner.Channels.{IsChannel};
 
 use bits::copy::fill;
 use bits::number::join8;
@@ -17,14 +19,14 @@ use protocol::Message;
 // How many messages the channel holds.
 pub fn count(ch: &[u8]) -> u8
     requires { IsChannel ch.now }
-    ensures { result ≡ length (messagesOf ch.now) }
+    ensures { result ≡ length (messages_of ch.now) }
 {
     ch[0]
 }
 
 fn put_message(s: &mut [u8], m: Message)
-    requires { length s.old ≡ messageSize }
-    ensures { s.new ≡ messageBytes m }
+    requires { length s.old ≡ message_size }
+    ensures { s.new ≡ message_bytes m }
 {
     s[0] = m.kind;
     s[1] = m.group;
@@ -33,8 +35,8 @@ fn put_message(s: &mut [u8], m: Message)
 }
 
 fn get_message(s: &[u8]) -> Message
-    requires { length s.now ≡ messageSize }
-    ensures { result ≡ messageOf s.now }
+    requires { length s.now ≡ message_size }
+    ensures { result ≡ message_of s.now }
 {
     Message {
         kind: s[0],
@@ -46,8 +48,8 @@ fn get_message(s: &[u8]) -> Message
 
 // The message that comes after the slot at `at` moves up into it.
 fn move_one(s: &mut [u8], at: usize)
-    requires { at + messageSize + messageSize ≤ length s.old }
-    ensures { s.new ≡ splice s.old at (part messageSize s.old (at + messageSize)) }
+    requires { at + message_size + message_size ≤ length s.old }
+    ensures { s.new ≡ splice s.old at (part message_size s.old (at + message_size)) }
 {
     let next = at + MESSAGE_SIZE;
     let m = get_message(&s[next..next + MESSAGE_SIZE]);
@@ -56,8 +58,8 @@ fn move_one(s: &mut [u8], at: usize)
 
 // Of n slots, every message but the first moves up by one, and the last slot is cleared: it alone is lent on for that.
 fn move_up(s: &mut [u8], n: usize)
-    requires { (0 < n) × (length s.old ≡ n * messageSize) }
-    ensures { s.new ≡ movedUp messageSize s.old }
+    requires { (0 < n) × (length s.old ≡ n * message_size) }
+    ensures { s.new ≡ moved_up message_size s.old }
 {
     let last = n - 1;
     let mut j = 0;
@@ -73,8 +75,8 @@ fn move_up(s: &mut [u8], n: usize)
 // lent on for that.
 pub fn remove_at(ch: &mut [u8], i: usize)
     requires channel { IsChannel ch.old }
-    requires i_in_bounds { i < length (messagesOf ch.old) }
-    ensures { ch.new ≡ channelBytes (removeAt i (messagesOf ch.old)) }
+    requires i_in_bounds { i < length (messages_of ch.old) }
+    ensures { ch.new ≡ channel_bytes (remove_at i (messages_of ch.old)) }
 {
     let n = ch[0];
     let k = n as usize;
@@ -87,8 +89,8 @@ pub fn remove_at(ch: &mut [u8], i: usize)
 // A message goes out: it comes last.
 pub fn push(ch: &mut [u8], m: Message)
     requires channel { IsChannel ch.old }
-    requires ch_len_bound { length (messagesOf ch.old) < capacity }
-    ensures { ch.new ≡ channelBytes (messagesOf ch.old ++ (m ∷ [])) }
+    requires ch_len_bound { length (messages_of ch.old) < capacity }
+    ensures { ch.new ≡ channel_bytes (messages_of ch.old ++ (m ∷ [])) }
 {
     let n = ch[0];
     let at = 1 + (n as usize) * MESSAGE_SIZE;
@@ -99,8 +101,8 @@ pub fn push(ch: &mut [u8], m: Message)
 // The i-th message, from the oldest.
 pub fn message_at(ch: &[u8], i: usize) -> Message
     requires channel { IsChannel ch.now }
-    requires i_in_bounds { i < length (messagesOf ch.now) }
-    ensures { result ≡ get_or (messagesOf ch.now) i noMessage }
+    requires i_in_bounds { i < length (messages_of ch.now) }
+    ensures { result ≡ get_or (messages_of ch.now) i no_message }
 {
     let at = 1 + i * MESSAGE_SIZE;
     get_message(&ch[at..at + MESSAGE_SIZE])
@@ -116,7 +118,7 @@ fn is_of(m: Message, kind: u8, group: u8) -> bool
 // Whether the channel holds no message of this kind and group.
 pub fn none_of(ch: &[u8], kind: u8, group: u8) -> bool
     requires { IsChannel ch.now }
-    ensures { result ≡ eqb (count_of kind group (messagesOf ch.now)) 0 }
+    ensures { result ≡ eqb (count_of kind group (messages_of ch.now)) 0 }
 {
     let n = ch[0] as usize;
     let mut i = 0;

@@ -1,1 +1,2 @@
 // No code: theorems that each public contract determines what it speaks of.
+#![tactic(auto)]

@@ -13,43 +13,43 @@ use native.Mathlib.Omega.{arith}
 use lib.Dec.{eqb}
 use lib.ListN.{length}
 use borrow.Author.Tests.{eq-eqb, ne_eqb}
-use Rattle.protocol.proofs.steps.Steps.{orElse-pass}
-use Rattle.layout.specs.Layout.{netLength}
+use Rattle.protocol.proofs.Steps.Steps.{or_else-pass}
+use Rattle.layout.specs.Layout.{net_length}
 use Rattle.layout.specs.declared.form.Mark.{Mark}
-use Rattle.shape.specs.Shape.{shapedAs}
+use Rattle.shape.specs.Shape.{shaped_as}
 use Rattle.shape.proofs.Nets.{marked}
 use Rattle.net.specs.View.{view}
-use Rattle.net.specs.Encode.{bytesAs}
+use Rattle.net.specs.Encode.{bytes_as}
 use Rattle.net.proofs.Forms.{seen, view-bytes, stands}
-use Rattle.convert.specs.Converts.{convertOutcome, afterConvert}
+use Rattle.convert.specs.Converts.{convert_outcome, after_convert}
 
 -- a net in another form: well shaped there, and the same net
-pub carried-net : (m n : Mark) (l : List ℕ) → shapedAs m l ≡ true → (shapedAs n (bytesAs n (view l)) ≡ true) × (view (bytesAs n (view l)) ≡ view l)
-carried-net m n l s = stands n (view l) (bytesAs n (view l)) (seen m l s) refl
+pub carried-net : (m n : Mark) (l : List ℕ) → shaped_as m l ≡ true → (shaped_as n (bytes_as n (view l)) ≡ true) × (view (bytes_as n (view l)) ≡ view l)
+carried-net m n l s = stands n (view l) (bytes_as n (view l)) (seen m l s) refl
 
 module _ (m n : Mark) (l out : List ℕ) where
-  pub passed : convertOutcome m l out ≡ 0 → (shapedAs m l ≡ true) × (eqb (length out) netLength ≡ true)
-  unfolding convertOutcome
+  pub passed : convert_outcome m l out ≡ 0 → (shaped_as m l ≡ true) × (eqb (length out) net_length ≡ true)
+  unfolding convert_outcome
   passed o =
-      let s = orElse-pass (shapedAs m l) 1 _ 0 (λ i. omega arith) o in
-      (s.0, (orElse-pass (eqb (length out) netLength) 10 0 0 (λ i. omega arith) s.1).0)
+      let s = or_else-pass (shaped_as m l) 1 _ 0 (λ i. omega arith) o in
+      (s.0, (or_else-pass (eqb (length out) net_length) 10 0 0 (λ i. omega arith) s.1).0)
 
-  pub converted-after : convertOutcome m l out ≡ 0 → afterConvert m n l out ≡ bytesAs n (view l)
-  unfolding afterConvert
+  pub converted-after : convert_outcome m l out ≡ 0 → after_convert m n l out ≡ bytes_as n (view l)
+  unfolding after_convert
   converted-after o = rw (eq-eqb _ 0 o) refl
 
-  pub converted-net : convertOutcome m l out ≡ 0 → (shapedAs n (afterConvert m n l out) ≡ true) × (view (afterConvert m n l out) ≡ view l)
+  pub converted-net : convert_outcome m l out ≡ 0 → (shaped_as n (after_convert m n l out) ≡ true) × (view (after_convert m n l out) ≡ view l)
   converted-net o = rw (converted-after o) (carried-net m n l (passed o).0)
 
-  pub refused-after : convertOutcome m l out ≢ 0 → afterConvert m n l out ≡ out
-  unfolding afterConvert
+  pub refused-after : convert_outcome m l out ≢ 0 → after_convert m n l out ≡ out
+  unfolding after_convert
   refused-after o = rw (ne_eqb _ 0 o) refl
 
   -- back into any buffer: where the first conversion is accepted, the second, into one of the right size, leaves what was read
-  pub back-again : (out' : List ℕ) → convertOutcome m l out ≡ 0 → convertOutcome n (afterConvert m n l out) out' ≡ 0
-      → afterConvert n m (afterConvert m n l out) out' ≡ l
-  unfolding afterConvert
-  back-again out' o o' = rw (eq-eqb _ 0 o') (ap (bytesAs m) (converted-net o).1 ∙ view-bytes m l (passed o).0)
+  pub back-again : (out' : List ℕ) → convert_outcome m l out ≡ 0 → convert_outcome n (after_convert m n l out) out' ≡ 0
+      → after_convert n m (after_convert m n l out) out' ≡ l
+  unfolding after_convert
+  back-again out' o o' = rw (eq-eqb _ 0 o') (ap (bytes_as m) (converted-net o).1 ∙ view-bytes m l (passed o).0)
 
-pub one_form : (m n : Mark) (l : List ℕ) → shapedAs m l ≡ true → shapedAs n l ≡ true → m ≡ n
+pub one_form : (m n : Mark) (l : List ℕ) → shaped_as m l ≡ true → shaped_as n l ≡ true → m ≡ n
 one_form m n l s t = sym (marked m l s) ∙ marked n l t

@@ -1,3 +1,3 @@
 -- A net carried from one form to another.
 pub mod Converts
-pub mod inner
+pub mod Inner

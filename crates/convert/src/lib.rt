@@ -1,11 +1,13 @@
 // A net carried from one form of its bytes to another.
+#![tactic(auto)]
+
 ghost use Rattle.std.specs.Prelude.{◌≡◌, ◌<◌, length};
-ghost use Rattle.protocol.specs.Net.{mostGroups, mostStations};
-ghost use Rattle.layout.specs.Layout.{netLength};
+ghost use Rattle.protocol.specs.Net.{most_groups, most_stations};
+ghost use Rattle.layout.specs.Layout.{net_length};
 ghost use Rattle.layout.specs.declared.form.Mark.TheVariants.{Saved, Working};
-ghost use Rattle.forms.specs.Folds.{in_row, inRows};
-ghost use Rattle.convert.specs.Converts.{convertOutcome, afterConvert};
-ghost use Rattle.convert.specs.inner.Carried.{entryCarried, carried};
+ghost use Rattle.forms.specs.Folds.{in_row, in_rows};
+ghost use Rattle.convert.specs.Converts.{convert_outcome, after_convert};
+ghost use Rattle.convert.specs.Inner.Carried.{entry_carried, carried};
 
 use bits::copy::put;
 use layout::form::{Mark, entry_at, mark_byte};
@@ -14,16 +16,16 @@ use protocol::{MOST_GROUPS, MOST_STATIONS};
 
 // The bytes of the entry of group g and station p, from where it stands in the form m to where it stands in the form n.
 fn carry_entry(net: &[u8], m: Mark, out: &mut [u8], n: Mark, g: usize, p: usize)
-    requires { (length net.now ≡ netLength) × (length out.old ≡ netLength) × (g < mostGroups) × (p < mostStations) }
-    ensures { out.new ≡ entryCarried net.now m n out.old g p }
+    requires { (length net.now ≡ net_length) × (length out.old ≡ net_length) × (g < most_groups) × (p < most_stations) }
+    ensures { out.new ≡ entry_carried net.now m n out.old g p }
 {
     let a = entry_at(m, g, p);
     put(out, entry_at(n, g, p), &net[a..a + ENTRY_SIZE]);
 }
 
 fn carry_group(net: &[u8], m: Mark, out: &mut [u8], n: Mark, g: usize)
-    requires { (length net.now ≡ netLength) × (length out.old ≡ netLength) × (g < mostGroups) }
-    ensures { out.new ≡ in_row (entryCarried net.now m n) out.old g mostStations }
+    requires { (length net.now ≡ net_length) × (length out.old ≡ net_length) × (g < most_groups) }
+    ensures { out.new ≡ in_row (entry_carried net.now m n) out.old g most_stations }
 {
     let mut p = 0;
     while p < MOST_STATIONS {
@@ -33,8 +35,8 @@ fn carry_group(net: &[u8], m: Mark, out: &mut [u8], n: Mark, g: usize)
 }
 
 fn carry_entries(net: &[u8], m: Mark, out: &mut [u8], n: Mark)
-    requires { (length net.now ≡ netLength) × (length out.old ≡ netLength) }
-    ensures { out.new ≡ inRows (entryCarried net.now m n) out.old mostGroups mostStations }
+    requires { (length net.now ≡ net_length) × (length out.old ≡ net_length) }
+    ensures { out.new ≡ in_rows (entry_carried net.now m n) out.old most_groups most_stations }
 {
     let mut g = 0;
     while g < MOST_GROUPS {
@@ -45,7 +47,7 @@ fn carry_entries(net: &[u8], m: Mark, out: &mut [u8], n: Mark)
 
 // The whole net: its bytes as they are, the other mark, and each entry where it stands now.
 fn carry(net: &[u8], m: Mark, out: &mut [u8], n: Mark)
-    requires { (length net.now ≡ netLength) × (length out.old ≡ netLength) }
+    requires { (length net.now ≡ net_length) × (length out.old ≡ net_length) }
     ensures { out.new ≡ carried net.now m n }
 {
     put(out, 0, net);
@@ -55,8 +57,8 @@ fn carry(net: &[u8], m: Mark, out: &mut [u8], n: Mark)
 
 // Any bytes, which are to be a net in the form m, into any buffer in the form n: the outcome number.
 pub fn convert(net: &[u8], m: Mark, out: &mut [u8], n: Mark) -> u8
-    ensures { (result ≡ convertOutcome m net.now out.old)
-        × (out.new ≡ afterConvert m n net.now out.old) }
+    ensures { (result ≡ convert_outcome m net.now out.old)
+        × (out.new ≡ after_convert m n net.now out.old) }
 {
     if !shape::whole::shaped_as(net, m) {
         return 1;
@@ -70,16 +72,16 @@ pub fn convert(net: &[u8], m: Mark, out: &mut [u8], n: Mark) -> u8
 
 // From the saved form to the working form.
 pub fn to_working(net: &[u8], work: &mut [u8]) -> u8
-    ensures { (result ≡ convertOutcome Saved net.now work.old)
-        × (work.new ≡ afterConvert Saved Working net.now work.old) }
+    ensures { (result ≡ convert_outcome Saved net.now work.old)
+        × (work.new ≡ after_convert Saved Working net.now work.old) }
 {
     convert(net, Mark::Saved, work, Mark::Working)
 }
 
 // And back.
 pub fn to_saved(work: &[u8], net: &mut [u8]) -> u8
-    ensures { (result ≡ convertOutcome Working work.now net.old)
-        × (net.new ≡ afterConvert Working Saved work.now net.old) }
+    ensures { (result ≡ convert_outcome Working work.now net.old)
+        × (net.new ≡ after_convert Working Saved work.now net.old) }
 {
     convert(work, Mark::Working, net, Mark::Saved)
 }

@@ -1,15 +1,17 @@
 // 4. Deliver: the oldest message from s to d.
+#![tactic(auto)]
+
 ghost use Rattle.std.specs.Prelude.{◌≡◌, true, ◌<◌};
-ghost use Rattle.protocol.specs.Net.{Net, takeAt};
+ghost use Rattle.protocol.specs.Net.{Net, take_at};
 ghost use Rattle.protocol.specs.Entries.{adopting};
 ghost use Rattle.protocol.specs.Rules.{oldest, room?, answered, heard, case_at};
 ghost use Rattle.protocol.specs.Rules as rule;
 ghost use Rattle.layout.specs.Marks.{mark_of};
 ghost use Rattle.net.specs.View.{view};
-ghost use Rattle.net.specs.Encode.{bytesLike};
-ghost use Rattle.access.specs.inner.Nets.{IsNet, EntryMade};
-ghost use Rattle.action.specs.inner.Ends.{ActionEnd};
-ghost use Rattle.deliver.specs.inner.MayDeliver.{MayDeliver};
+ghost use Rattle.net.specs.Encode.{bytes_like};
+ghost use Rattle.access.specs.Inner.Nets.{IsNet, EntryMade};
+ghost use Rattle.action.specs.Inner.Ends.{ActionEnd};
+ghost use Rattle.deliver.specs.Inner.MayDeliver.{MayDeliver};
 
 use action::Answer;
 use action::operands::of_cable;
@@ -22,7 +24,7 @@ fn answer(net: &mut [u8], m: Mark, s: u8, d: u8, g: u8)
     requires m_value { m ≡ mark_of net.old }
     requires may_deliver { MayDeliver (view net.old) s d }
     requires g_value { (g ≡ (oldest (view net.old).channel s d).group) × (room? (view net.old) d s ≡ true) }
-    ensures { net.new ≡ bytesLike net.old (answered (takeAt (view net.old) s d 0) g s d) }
+    ensures { net.new ≡ bytes_like net.old (answered (take_at (view net.old) s d 0) g s d) }
 {
     access::change::take_at(net, s, d, 0);
     let root = access::read::root_of(net, g);
@@ -51,7 +53,7 @@ fn listen(net: &mut [u8], m: Mark, s: u8, d: u8, reply: Message) -> Case
     requires may_deliver { MayDeliver (view net.old) s d }
     requires reply_value { reply ≡ oldest (view net.old).channel s d }
     ensures { (result ≡ case_at (view net.old) s d reply)
-        × (net.new ≡ bytesLike net.old (heard (view net.old) s d reply)) }
+        × (net.new ≡ bytes_like net.old (heard (view net.old) s d reply)) }
 {
     let g = reply.group;
     let e = access::read::entry_as(net, m, g, d);
@@ -70,7 +72,7 @@ fn hear(net: &mut [u8], m: Mark, s: u8, d: u8, reply: Message) -> Case
     requires may_deliver { MayDeliver (view net.old) s d }
     requires reply_value { reply ≡ oldest (view net.old).channel s d }
     ensures { (result ≡ case_at (view net.old) s d reply)
-        × (net.new ≡ bytesLike net.old (heard (takeAt (view net.old) s d 0) s d reply)) }
+        × (net.new ≡ bytes_like net.old (heard (take_at (view net.old) s d 0) s d reply)) }
 {
     let case = listen(net, m, s, d, reply);
     access::change::take_at(net, s, d, 0);

@@ -4,24 +4,24 @@ use Rattle.std.specs.Prelude.{◌≡◌, Bool, true, List, ℕ}
 use Rattle.protocol.specs.Sound.{ShapedSound}
 use Rattle.layout.specs.declared.form.Mark.{Mark}
 use Rattle.layout.specs.declared.form.Mark.TheVariants.{Saved}
-use Rattle.shape.specs.Shape.{shapedAs}
+use Rattle.shape.specs.Shape.{shaped_as}
 use Rattle.net.specs.View.{view}
-use Rattle.fresh.specs.Fresh.{freshOutcome, netAfterFresh}
-use Rattle.step.specs.Steps.{netAfterStepAs}
-use Rattle.run.specs.Runs.{netAfterRunAs}
-use Rattle.convert.specs.Converts.{convertOutcome, afterConvert}
+use Rattle.fresh.specs.Fresh.{fresh_outcome, net_after_fresh}
+use Rattle.step.specs.Steps.{net_after_step_as}
+use Rattle.run.specs.Runs.{net_after_run_as}
+use Rattle.convert.specs.Converts.{convert_outcome, after_convert}
 
 pub data Reachable : Mark → List ℕ → Type 0 where
   -- a fresh net, from any plan into any buffer, where it is accepted
-  begun : (plan net : List ℕ) → freshOutcome plan net ≡ 0 → Reachable Saved (netAfterFresh plan net)
+  begun : (plan net : List ℕ) → fresh_outcome plan net ≡ 0 → Reachable Saved (net_after_fresh plan net)
   -- a step of any numbers, accepted or refused
-  stepped : {m : Mark} {l : List ℕ} → Reachable m l → (k a b c : ℕ) → Reachable m (netAfterStepAs m l k a b c)
+  stepped : {m : Mark} {l : List ℕ} → Reachable m l → (k a b c : ℕ) → Reachable m (net_after_step_as m l k a b c)
   -- a run of any script, with a tally of the right size or not, accepted or refused
-  ran : {m : Mark} {l : List ℕ} → Reachable m l → (s : List ℕ) (fits : Bool) → Reachable m (netAfterRunAs m l s fits)
+  ran : {m : Mark} {l : List ℕ} → Reachable m l → (s : List ℕ) (fits : Bool) → Reachable m (net_after_run_as m l s fits)
   -- a conversion into any buffer, where it is accepted
-  converted : {m : Mark} {l : List ℕ} → Reachable m l → (n : Mark) (out : List ℕ) → convertOutcome m l out ≡ 0 → Reachable n (afterConvert m n l out)
+  converted : {m : Mark} {l : List ℕ} → Reachable m l → (n : Mark) (out : List ℕ) → convert_outcome m l out ≡ 0 → Reachable n (after_convert m n l out)
 
 -- well-shaped bytes that show a net that is well shaped and sound
 pub record ShapedSoundBytes (m : Mark) (l : List ℕ) : Type 0 where
-  pub shape : shapedAs m l ≡ true
+  pub shape : shaped_as m l ≡ true
   pub sound : ShapedSound (view l)

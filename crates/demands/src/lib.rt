@@ -1,1 +1,2 @@
 // Demand 3 over bytes: theorems only (specs/ and proofs/).
+#![tactic(auto)]

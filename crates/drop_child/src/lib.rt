@@ -1,11 +1,13 @@
 // 7. Drop child: it is removed, and the station leaves if it no longer joins.
+#![tactic(auto)]
+
 ghost use Rattle.std.specs.Prelude.{◌≡◌, ◌<◌};
 ghost use Rattle.protocol.specs.Net.{Net};
 ghost use Rattle.protocol.specs.Rules as rule;
 ghost use Rattle.layout.specs.Marks.{mark_of};
 ghost use Rattle.net.specs.View.{view};
-ghost use Rattle.access.specs.inner.Nets.{IsNet};
-ghost use Rattle.action.specs.inner.Ends.{ActionEnd};
+ghost use Rattle.access.specs.Inner.Nets.{IsNet};
+ghost use Rattle.action.specs.Inner.Ends.{ActionEnd};
 
 use action::Answer;
 use action::operands::of_pair;
@@ -15,7 +17,7 @@ use layout::form::Mark;
 fn may_drop(net: &[u8], m: Mark, g: u8, p: u8, x: u8) -> bool
     requires net { IsNet net.now }
     requires m_value { (m ≡ mark_of net.now) × (g < (view net.now).groups) × (p < (view net.now).stations) × (x < (view net.now).stations) }
-    ensures { result ≡ (rule.dropChild (view net.now) g p x).enabled }
+    ensures { result ≡ (rule.drop_child (view net.now) g p x).enabled }
 {
     let e = access::read::entry_as(net, m, g, p);
     let child = access::read::entry_as(net, m, g, x);
@@ -28,7 +30,7 @@ fn may_drop(net: &[u8], m: Mark, g: u8, p: u8, x: u8) -> bool
 pub fn drop_child(net: &mut [u8], m: Mark, g: u8, p: u8, x: u8) -> Answer
     requires net { IsNet net.old }
     requires m_value { m ≡ mark_of net.old }
-    ensures { ActionEnd (rule.dropChild (view net.old) g p x) net.old result net.new }
+    ensures { ActionEnd (rule.drop_child (view net.old) g p x) net.old result net.new }
 {
     if !of_pair(net, g, p, x) {
         return Answer::Refused;

@@ -1,8 +1,10 @@
 // What the actions ask of one entry or message, and what they make of it, by value.
+#![tactic(auto)]
+
 ghost use Rattle.std.specs.Prelude.{◌≡◌, ◌≢◌, not, ◌&&◌, ◌||◌, ◌<◌, eqb};
 ghost use Rattle.bits.specs.Masks as mask;
 ghost use Rattle.bits.specs.Sums.{bit};
-ghost use Rattle.protocol.specs.Net.{nil, mostStations};
+ghost use Rattle.protocol.specs.Net.{nil, most_stations};
 ghost use Rattle.protocol.specs.declared.Case.TheVariants.{Adopted};
 ghost use Rattle.protocol.specs.Cases as reply;
 ghost use Rattle.protocol.specs.Entries as rule;
@@ -23,7 +25,7 @@ fn connected(root: u8, p: u8, e: Entry) -> bool
 
 // Whether a station that waits on these may ask q: nil, or one of the sixteen.
 fn may_ask_at(waiting: u16, q: u8) -> bool
-    requires { q ≢ nil → q < mostStations }
+    requires { q ≢ nil → q < most_stations }
     ensures { result ≡ (not (eqb q nil) && not (mask.has waiting q)) }
 {
     if q == NIL {
@@ -34,7 +36,7 @@ fn may_ask_at(waiting: u16, q: u8) -> bool
 
 // Whether station p may ask q, its route's neighbour or nil.
 pub fn may_ask(root: u8, p: u8, q: u8, e: Entry) -> bool
-    requires { q ≢ nil → q < mostStations }
+    requires { q ≢ nil → q < most_stations }
     ensures { result ≡ (not (eqb p root) && rule.joins e && not (eqb q nil) && not (mask.has e.waiting q)) }
 {
     !(p == root) & joins(e) & may_ask_at(e.waiting, q)
@@ -42,30 +44,30 @@ pub fn may_ask(root: u8, p: u8, q: u8, e: Entry) -> bool
 
 // Whether the station may ask its parent, a neighbour or nil.
 pub fn may_refresh(e: Entry) -> bool
-    requires { e.parent ≢ nil → e.parent < mostStations }
+    requires { e.parent ≢ nil → e.parent < most_stations }
     ensures { result ≡ (not (eqb e.parent nil) && not (mask.has e.waiting e.parent)) }
 {
     may_ask_at(e.waiting, e.parent)
 }
 
 pub fn with_child(mut e: Entry, s: u8) -> Entry
-    requires { s < mostStations }
-    ensures { result ≡ rule.withChild e s }
+    requires { s < most_stations }
+    ensures { result ≡ rule.with_child e s }
 {
     e.children = bits::mask::with(e.children, s);
     e
 }
 
 pub fn without_child(mut e: Entry, x: u8) -> Entry
-    requires { x < mostStations }
-    ensures { result ≡ rule.withoutChild e x }
+    requires { x < most_stations }
+    ensures { result ≡ rule.without_child e x }
 {
     e.children = bits::mask::without(e.children, x);
     e
 }
 
 pub fn with_member(mut e: Entry, v: u8) -> Entry
-    ensures { result ≡ rule.withMember e v }
+    ensures { result ≡ rule.with_member e v }
 {
     e.member = v;
     e
@@ -79,7 +81,7 @@ pub fn stays(root: u8, p: u8, e: Entry) -> bool
 }
 
 pub fn request_of(g: u8) -> Message
-    ensures { result ≡ rule.requestOf g }
+    ensures { result ≡ rule.request_of g }
 {
     Message {
         kind: REQUEST,
@@ -96,7 +98,7 @@ fn bit(b: bool) -> u8
 }
 
 pub fn reply_of(g: u8, root: u8, p: u8, e: Entry) -> Message
-    ensures { result ≡ rule.replyOf g root p e }
+    ensures { result ≡ rule.reply_of g root p e }
 {
     Message {
         kind: REPLY,
@@ -124,7 +126,7 @@ pub fn case_of(e: Entry, s: u8, m: Message) -> Case
 
 // The number of a case.
 pub fn case_number(c: Case) -> u8
-    ensures { result ≡ reply.caseNumber c }
+    ensures { result ≡ reply.case_number c }
 {
     match c {
         Case::Adopted => 1,
@@ -136,7 +138,7 @@ pub fn case_number(c: Case) -> u8
 
 // Whether it is the case in which a reply is taken.
 pub fn is_adopted(c: Case) -> bool
-    ensures { result ≡ eqb (reply.caseNumber c) (reply.caseNumber Adopted) }
+    ensures { result ≡ eqb (reply.case_number c) (reply.case_number Adopted) }
 {
     case_number(c) == case_number(Case::Adopted)
 }

@@ -11,28 +11,28 @@ use borrow.Author.Tests.{eq-eqb}
 use Rattle.protocol.specs.Net.{Net}
 use Rattle.protocol.specs.Runs.{run}
 use Rattle.protocol.specs.Shaped.{All, Shaped}
-use Rattle.protocol.specs.ExampleNets.{Step, scriptOf, Start, ◌having◌, net, proper}
+use Rattle.protocol.specs.ExampleNets.{Step, script_of, Start, ◌having◌, net, proper}
 use Rattle.protocol.specs.ExampleRows.{Row}
 use Rattle.protocol.specs.Examples.{examples}
-use Rattle.protocol.proofs.laws.Maps.{All-map}
-use Rattle.protocol.proofs.examples.Nets.{proper-shaped}
-use Rattle.protocol.proofs.examples.Examples.{examples-shaped}
+use Rattle.protocol.proofs.Laws.Maps.{All-map}
+use Rattle.protocol.proofs.Examples.Nets.{proper-shaped}
+use Rattle.protocol.proofs.Examples.Examples.{examples-shaped}
 use Rattle.layout.specs.declared.form.Mark.TheVariants.{Saved}
 use Rattle.shape.specs.Shape.{shaped}
 use Rattle.net.specs.View.{view}
 use Rattle.net.specs.Encode.{bytes_of}
-use Rattle.find.specs.Answers.{foundIn}
-use Rattle.step.specs.Steps.{stepOutcomeAs, stepCaseAs}
+use Rattle.find.specs.Answers.{found_in}
+use Rattle.step.specs.Steps.{step_outcome_as, step_case_as}
 use Rattle.step.proofs.After.{after-bytes}
-use Rattle.run.specs.Runs.{runOutcomeAs, netAfterRun, runTallyAs, tallyAfterRunAs}
+use Rattle.run.specs.Runs.{run_outcome_as, net_after_run, run_tally_as, tally_after_run_as}
 use Rattle.run.proofs.Theorems.{run-shows}
-use Rattle.call.specs.Answers.{calledIn, listAfterCall}
+use Rattle.call.specs.Answers.{called_in, list_after_call}
 use Rattle.examples.specs.Tells.{Tells}
 use Rattle.net.proofs.Forms.{view-bytes, stands}
 
 -- well-shaped bytes answer and leave what the rules say of the net that they show
 shaped-tell : (l : List ℕ) → shaped l ≡ true → Tells l (view l)
-unfolding stepOutcomeAs stepCaseAs runOutcomeAs runTallyAs tallyAfterRunAs foundIn calledIn listAfterCall
+unfolding step_outcome_as step_case_as run_outcome_as run_tally_as tally_after_run_as found_in called_in list_after_call
 shaped-tell l s = record {
   shape = s;
   shows = refl;
@@ -57,10 +57,10 @@ module _ (S : Start) (p : proper S ≡ true) (ts : List Step) where
   T : Tells (bytes_of (net S)) (net S)
   T = bytes-tell (net S) (proper-shaped S p)
 
-  pub having-after : netAfterRun (bytes_of (net S)) (scriptOf ts) true ≡ bytes_of (net (S having ts))
+  pub having-after : net_after_run (bytes_of (net S)) (script_of ts) true ≡ bytes_of (net (S having ts))
   unfolding net
-  having-after = T.run (scriptOf ts)
+  having-after = T.run (script_of ts)
 
-  pub having-shows : view (netAfterRun (bytes_of (net S)) (scriptOf ts) true) ≡ net (S having ts)
+  pub having-shows : view (net_after_run (bytes_of (net S)) (script_of ts) true) ≡ net (S having ts)
   unfolding net
-  having-shows = (run-shows Saved (bytes_of (net S)) (scriptOf ts) T.shape).1 ∙ ap (λ (N : Net). (run N (scriptOf ts)).net) T.shows
+  having-shows = (run-shows Saved (bytes_of (net S)) (script_of ts) T.shape).1 ∙ ap (λ (N : Net). (run N (script_of ts)).net) T.shows

@@ -3,21 +3,21 @@ use Rattle.std.specs.Prelude.{◌≡◌, ◌/◌, ◌%◌, ◌<◌}
 use Rattle.protocol.specs.Names.{Found}
 use Rattle.protocol.specs.Calls.{Called}
 use Rattle.step.specs.declared.Answer.{Answer}
-use Rattle.rig.specs.Face.{stepWord, foundWord, calledWord}
+use Rattle.rig.specs.Face.{step_word, found_word, called_word}
 
 -- the word of an answer has its values, each in its byte
 pub record StepRead (s : Answer) : Type 0 where
-  pub outcome : stepWord s % 256 ≡ s.outcome
-  pub case : stepWord s / 256 % 256 ≡ s.case
+  pub outcome : step_word s % 256 ≡ s.outcome
+  pub case : step_word s / 256 % 256 ≡ s.case
 
 pub record FoundRead (f : Found) : Type 0 where
-  pub outcome : foundWord f % 256 ≡ f.outcome
-  pub group : foundWord f / 256 % 256 ≡ f.group
+  pub outcome : found_word f % 256 ≡ f.outcome
+  pub group : found_word f / 256 % 256 ≡ f.group
 
 pub record CalledRead (a : Called) : Type 0 where
-  pub outcome : calledWord a % 256 ≡ a.outcome
-  pub reached : calledWord a / 256 % 256 ≡ a.reached
-  pub copies : calledWord a / 65536 % 256 ≡ a.copies
+  pub outcome : called_word a % 256 ≡ a.outcome
+  pub reached : called_word a / 256 % 256 ≡ a.reached
+  pub copies : called_word a / 65536 % 256 ≡ a.copies
 
 -- values that fit a byte
 abbrev pub SmallStep : Answer → Type 0

@@ -3,12 +3,12 @@ use Rattle.std.specs.Prelude.{◌≡◌, List, [], ◌∷◌, ◌++◌, ℕ, ◌
 use Rattle.bits.specs.Parts.{part}
 use Rattle.protocol.specs.Net.{nil}
 use Rattle.protocol.specs.ExampleNets.{Start, ◌knowing◌, ◌carrying◌, ◌by◌}
-use Rattle.protocol.specs.ExampleRows.{entry, aRequest, aReply}
+use Rattle.protocol.specs.ExampleRows.{entry, a_request, a_reply}
 use Rattle.protocol.specs.Examples.{hulls}
 
 -- ---- the plan of "The bench program": stations 0-1-2 in a line, one group "A" (hex 41) with root 0
-unfoldable pub workedPlan : List ℕ
-workedPlan =
+unfoldable pub worked_plan : List ℕ
+worked_plan =
     -- 0: "length 00 00 00 70", "version 1", "stations n", "groups g", "zero"
     0x00 ∷ 0x00 ∷ 0x00 ∷ 0x70 ∷ 1 ∷ 3 ∷ 1 ∷ 0
     -- 8: "4 groups of 18: name length, 16 name bytes, root"; three are unused
@@ -22,22 +22,22 @@ workedPlan =
     ∷ []
 
 -- after the steps of the listing: the tally, nine "counts of 4 bytes", and the reach list, "48 bytes"
-abbrev pub workedTally : List ℕ
-workedTally =
+abbrev pub worked_tally : List ℕ
+worked_tally =
     0 ∷ 0 ∷ 0 ∷ 13 ∷ 0 ∷ 0 ∷ 0 ∷ 0 ∷ 0 ∷ 0 ∷ 0 ∷ 6 ∷ 0 ∷ 0 ∷ 0 ∷ 6 ∷ 0 ∷ 0 ∷ 0 ∷ 0
     ∷ 0 ∷ 0 ∷ 0 ∷ 2 ∷ 0 ∷ 0 ∷ 0 ∷ 0 ∷ 0 ∷ 0 ∷ 0 ∷ 1 ∷ 0 ∷ 0 ∷ 0 ∷ 0
     ∷ []
 
-abbrev pub workedList : List ℕ
-workedList = (0 ∷ 255 ∷ 0 ∷ 1 ∷ 0 ∷ 1 ∷ 2 ∷ 1 ∷ 2 ∷ []) ++ replicate 39 255
+abbrev pub worked_list : List ℕ
+worked_list = (0 ∷ 255 ∷ 0 ∷ 1 ∷ 0 ∷ 1 ∷ 2 ∷ 1 ∷ 2 ∷ []) ++ replicate 39 255
 
 -- ---- a net with stations 0-1 and the groups H21 (root 0), H210 (root 1) and HHHHHHHHHHHHHHHH (root 0): two routes are set, in group 1
 -- there is an entry at station 0 and in group 2 one at station 1, and two messages are on their way from 0 to 1
-abbrev pub workedNet : Start
-workedNet =
+abbrev pub worked_net : Start
+worked_net =
     hulls by (9, 0, 1, 1) by (9, 1, 0, 0)
     knowing (1, 0, entry 1 nil 1 0x01020304 0b10 0) knowing (2, 1, entry nil 0 0 0x05060708 0 0b01)
-    carrying (0, 1, aRequest 2) carrying (0, 1, aReply 1 1 0x090A0B0C)
+    carrying (0, 1, a_request 2) carrying (0, 1, a_reply 1 1 0x090A0B0C)
 
 -- of its bytes l: the front, the routes, these two entries and this channel
 pub record WorkedNet (l : List ℕ) : Type 0 where

@@ -12,7 +12,7 @@ use lib.Seq.{ext_get_or}
 use borrow.Author.Tests.{eqb-true, eq-eqb}
 use Rattle.bits.proofs.Cases.{same_test, is_false}
 use Rattle.protocol.specs.Net.{Net}
-use Rattle.protocol.specs.Names.{same_name, firstFrom, find}
+use Rattle.protocol.specs.Names.{same_name, first_from, find}
 use Rattle.protocol.proofs.Finds.{same-name, name-same, first_step, first-here, first-end, find-hit, find-miss}
 use Rattle.bits.specs.Below.{all_below}
 use Rattle.bits.proofs.Below.{all-at, all_of}
@@ -36,26 +36,26 @@ module _ (N : Net) (w : List ℕ) where
 
   -- the search from g on finds what the search from 0 finds
   abbrev pub Still : ℕ → Type 0
-  Still g = firstFrom named 0 N.groups ≡ firstFrom named g (N.groups - g)
+  Still g = first_from named 0 N.groups ≡ first_from named g (N.groups - g)
 
   pub still-start : Still 0
-  still-start = ap (firstFrom named 0) (omega arith)
+  still-start = ap (first_from named 0) (omega arith)
 
   pub still-next : (g : ℕ) → g < N.groups → Still g → named g ≡ false → Still (g + 1)
   still-next g h s f =
       let k : N.groups - g ≡ suc (N.groups - (g + 1)) = omega arith in
-      s ∙ ap (firstFrom named g) k ∙ first_step named g _ f ∙ ap (λ (x : ℕ). firstFrom named x (N.groups - (g + 1))) (sym (add-one g))
+      s ∙ ap (first_from named g) k ∙ first_step named g _ f ∙ ap (λ (x : ℕ). first_from named x (N.groups - (g + 1))) (sym (add-one g))
 
   pub still-hit : (g : ℕ) → g < N.groups → Still g → named g ≡ true → Group g ≡ answer_of (find N w)
   unfolding answer_of
   still-hit g h s t =
       let k : N.groups - g ≡ suc (N.groups - (g + 1)) = omega arith in
-      let e : firstFrom named 0 N.groups ≡ g = s ∙ ap (firstFrom named g) k ∙ first-here named g _ t in
+      let e : first_from named 0 N.groups ≡ g = s ∙ ap (first_from named g) k ∙ first-here named g _ t in
       ap Group (sym e) ∙ ap answer_of (sym (find-hit N w (omega arith)))
 
   pub still-miss : (g : ℕ) → N.groups ≤ g → g ≤ N.groups → Still g → Refused 7 ≡ answer_of (find N w)
   unfolding answer_of
   still-miss g h k s =
       let z : N.groups - g ≡ 0 = omega arith in
-      let e : firstFrom named 0 N.groups ≡ g = s ∙ ap (firstFrom named g) z ∙ first-end named g in
+      let e : first_from named 0 N.groups ≡ g = s ∙ ap (first_from named g) z ∙ first-end named g in
       ap answer_of (sym (find-miss N w (omega arith)))

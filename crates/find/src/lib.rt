@@ -1,10 +1,12 @@
 // A group found by its full name.
+#![tactic(auto)]
+
 ghost use Rattle.std.specs.Prelude.{◌≡◌, ◌<◌};
 ghost use Rattle.protocol.specs.Net.{Net};
 ghost use Rattle.protocol.specs.Names as names;
 ghost use Rattle.net.specs.View.{view};
-ghost use Rattle.access.specs.inner.Nets.{IsNet};
-ghost use Rattle.find.specs.Answers.{answer_of, foundIn};
+ghost use Rattle.access.specs.Inner.Nets.{IsNet};
+ghost use Rattle.find.specs.Answers.{answer_of, found_in};
 
 // The answer: the number of a group, or the number of a refusal.
 #[derive(Drop)]
@@ -57,7 +59,7 @@ fn find_in(net: &[u8], name: &[u8]) -> Answer
 
 // The group that has exactly these name bytes, in any bytes.
 pub fn find(net: &[u8], name: &[u8]) -> Answer
-    ensures { result ≡ answer_of (foundIn net.now name.now) }
+    ensures { result ≡ answer_of (found_in net.now name.now) }
 {
     if shape::whole::shaped(net) {
         find_in(net, name)

@@ -10,7 +10,7 @@ use native.Mathlib.Omega.{arith}
 use lib.ListN.{length, get_or, length-append}
 use Rattle.bits.specs.Parts.{part}
 use Rattle.bits.proofs.Cases.{by-eq}
-use Rattle.bits.proofs.Parts.{length_part, get_d_part, part-cong, part-part, part-add, part-all, part_left, part_right, part_same}
+use Rattle.bits.proofs.Parts.{length_part, get_or-part, part-cong, part-part, part-add, part-all, part_left, part_right, part_same}
 use Rattle.layout.specs.Layout.{byte}
 use Rattle.forms.specs.Cells.{cells}
 
@@ -23,7 +23,7 @@ module _ (w : ℕ) (l : List ℕ) (at : ℕ) (xs : List ℕ) where
   is_zero e z = part-cong w l [] at 0 z ∙ ap (λ (ys : List ℕ). part w ys 0) (sym e)
 
   pub zero-cell : part w l at ≡ part w xs 0 → xs ≡ [] → (x : ℕ) → x < w → byte l (at + x) ≡ 0
-  zero-cell e z x h = sym (get_d_part w l at x h) ∙ ap (λ (b : List ℕ). get_or b x 0) (e ∙ ap (λ (ys : List ℕ). part w ys 0) z) ∙ get_d_part w [] 0 x h
+  zero-cell e z x h = sym (get_or-part w l at x h) ∙ ap (λ (b : List ℕ). get_or b x 0) (e ∙ ap (λ (ys : List ℕ). part w ys 0) z) ∙ get_or-part w [] 0 x h
 
 -- ---- one row of cells
 pub length-cells : (w n : ℕ) (f : ℕ → List ℕ) → length (cells w n f) ≡ w * n

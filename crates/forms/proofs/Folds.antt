@@ -7,7 +7,7 @@ use mathlib.Core.Path.{◌≡◌, refl, ap, ◌∙◌}
 use Prim.Native.Nat.{ℕ, zero, suc, ◌≤◌, ◌<◌}
 use native.Mathlib.Omega.{arith}
 use Rattle.bits.proofs.Cases.{by-eq}
-use Rattle.forms.specs.Folds.{in_row, inRows}
+use Rattle.forms.specs.Folds.{in_row, in_rows}
 
 module _ {A : Type 0} (put : A → ℕ → ℕ → A) (Q : A → Type 0) (r₀ m₀ : ℕ) (keeps : (x : A) (i j : ℕ) → i < r₀ → j < m₀ → Q x → Q (put x i j)) where
   row-holds : (x : A) (i m : ℕ) → Q x → i < r₀ → m ≤ m₀ → Q (in_row put x i m)
@@ -15,8 +15,8 @@ module _ {A : Type 0} (put : A → ℕ → ℕ → A) (Q : A → Type 0) (r₀ m
   row-holds x i zero q h k = q
   row-holds x i (suc m) q h k = keeps _ i m h (omega arith) (row-holds x i m q h (omega arith))
 
-  pub rows-hold : (x : A) (r m : ℕ) → Q x → r ≤ r₀ → m ≤ m₀ → Q (inRows put x r m)
-  unfolding inRows
+  pub rows-hold : (x : A) (r m : ℕ) → Q x → r ≤ r₀ → m ≤ m₀ → Q (in_rows put x r m)
+  unfolding in_rows
   rows-hold x zero m q h k = q
   rows-hold x (suc r) m q h k = row-holds _ r m (rows-hold x r m q (omega arith) k) (omega arith) k
 
@@ -36,8 +36,8 @@ module _ {A : Type 0} (put : A → ℕ → ℕ → A) (Q : A → Type 0) (r₀ m
         (λ e. rw e (puts _ i m (row-holds x i m q h (omega arith)) h (omega arith)))
         (λ n. stays _ i m i d (row-holds x i m q h (omega arith)) h (omega arith) h (omega arith) (row_read x i m d q h (omega arith) (omega arith)))
 
-    pub rows-read : (x : A) (r m p d : ℕ) → Q x → r ≤ r₀ → m ≤ m₀ → p < r → d < m → read (inRows put x r m) p d ≡ v p d
-    unfolding inRows
+    pub rows-read : (x : A) (r m p d : ℕ) → Q x → r ≤ r₀ → m ≤ m₀ → p < r → d < m → read (in_rows put x r m) p d ≡ v p d
+    unfolding in_rows
     rows-read x zero m p d q h k hp hd = absurd (omega arith)
     rows-read x (suc r) m p d q h k hp hd = by-eq p r
         (λ e. rw e (row_read _ r m d (rows-hold x r m q (omega arith) k) (omega arith) k hd))
@@ -51,12 +51,12 @@ module _ {A : Type 0} (put : A → ℕ → ℕ → A) (Q : A → Type 0) (r₀ m
     row-tied x i zero q h k = refl
     row-tied x i (suc m) q h k = tie _ i m (row-holds x i m q h (omega arith)) h (omega arith) ∙ ap (λ (y : B). put' y i m) (row-tied x i m q h (omega arith))
 
-    pub rows-tied : (x : A) (r m : ℕ) → Q x → r ≤ r₀ → m ≤ m₀ → out (inRows put x r m) ≡ inRows put' (out x) r m
-    unfolding inRows
+    pub rows-tied : (x : A) (r m : ℕ) → Q x → r ≤ r₀ → m ≤ m₀ → out (in_rows put x r m) ≡ in_rows put' (out x) r m
+    unfolding in_rows
     rows-tied x zero m q h k = refl
     rows-tied x (suc r) m q h k = row-tied _ r m (rows-hold x r m q (omega arith) k) (omega arith) k ∙ ap (λ (y : B). in_row put' y r m) (rows-tied x r m q (omega arith) k)
 
 -- what no put touches
 pub rows-kept : {A B : Type 0} (put : A → ℕ → ℕ → A) (f : A → B) (r₀ m₀ : ℕ) → ((x : A) (i j : ℕ) → i < r₀ → j < m₀ → f (put x i j) ≡ f x)
-    → (x : A) (r m : ℕ) → r ≤ r₀ → m ≤ m₀ → f (inRows put x r m) ≡ f x
+    → (x : A) (r m : ℕ) → r ≤ r₀ → m ≤ m₀ → f (in_rows put x r m) ≡ f x
 rows-kept {A} put f r₀ m₀ same x r m h k = rows-hold put (λ (y : A). f y ≡ f x) r₀ m₀ (λ y i j hi hj e. same y i j hi hj ∙ e) x r m refl h k

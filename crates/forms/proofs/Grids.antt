@@ -1,5 +1,5 @@
 -- How a grid is made.
---     byRows          row after row, cell after cell, for any widths
+--     by_rows          row after row, cell after cell, for any widths
 --     turned          the same cells, (i, j) for (j, i): column after column
 --     cell-by-cell    tested cell by cell, wherever they stand; either_way: which says the same
 use mathlib.Core.Path.{◌≡◌, sym, ap, ◌∙◌}
@@ -14,7 +14,7 @@ use Rattle.bits.specs.Parts.{part}
 use Rattle.bits.proofs.Cases.{by-lt, same_test}
 use Rattle.bits.proofs.Parts.{part_left, part_right}
 use Rattle.layout.specs.Layout.{byte}
-use Rattle.layout.specs.Bounded.{table, gridPass}
+use Rattle.layout.specs.Bounded.{table, grid_pass}
 use Rattle.layout.proofs.Bounded.{table_at, cells_at, cells_rest}
 use Rattle.layout.proofs.Bounded as tables
 use Rattle.forms.specs.Cells.{cells}
@@ -55,8 +55,8 @@ module _ (from w cols r rows : ℕ) (e : r ≡ w * cols) (wide : 0 < w) (some : 
     both = λ l m n P hm hn f z. tables.grid-of l from w cols r rows m n P e wide some hm f (λ i j x hi hj hx o. ap (λ (k : ℕ). byte l (k + x)) (sym (place i j)) ∙ z i j x hi hj hx o);
   }
 
-  abbrev pub byRows : Grid rows cols
-  byRows = record {
+  abbrev pub by_rows : Grid rows cols
+  by_rows = record {
     at = at;
     width = w;
     from = from;
@@ -82,7 +82,7 @@ turned G = record {
   bytes = λ f h. G.bytes (λ i j. f j i) (λ i j. h j i);
 }
 
-pub cell-by-cell : (rows cols : ℕ) (at : ℕ → ℕ → ℕ) (w : ℕ) → Passes rows cols at w (λ l m n P. gridPass l at w rows cols m n P)
+pub cell-by-cell : (rows cols : ℕ) (at : ℕ → ℕ → ℕ) (w : ℕ) → Passes rows cols at w (λ l m n P. grid_pass l at w rows cols m n P)
 cell-by-cell rows cols at w = record {
   used = λ l m n P hm hn. cells_at l at w rows cols m n P hm hn;
   rest = λ l m n P. cells_rest l at w rows cols m n P;

@@ -1,10 +1,10 @@
 pub mod Each
 pub mod Cells
 pub mod Names
-pub mod plan
+pub mod Plan
 pub mod Grids
 pub mod Turns
 pub mod Folds
 pub mod Tables
 pub mod Queues
-pub mod form
+pub mod Form

@@ -13,11 +13,11 @@ use Rattle.bits.specs.Masks.{has}
 use Rattle.bits.specs.Parts.{part}
 use Rattle.bits.proofs.Cases.{by-eq, by-or, and_both, or_l, or_r}
 use Rattle.bits.specs.Numbers.{Bytes}
-use Rattle.bits.proofs.Parts.{lent, length_part, get_d_part, part-part, part-lent, getD-zeros}
+use Rattle.bits.proofs.Parts.{lent, length_part, get_or-part, part-part, part-lent, get_or-zeros}
 use Rattle.protocol.specs.Shaped.{All, none, both, Version, ShapedChannelOf}
-use Rattle.protocol.proofs.laws.Maps.{All-map}
-use Rattle.channel.specs.Slots.{flat, laid, inUse, read_all, write_all}
-use Rattle.channel.specs.inner.Channels.{Queue}
+use Rattle.protocol.proofs.Laws.Maps.{All-map}
+use Rattle.channel.specs.Slots.{flat, laid, in_use, read_all, write_all}
+use Rattle.channel.specs.Inner.Channels.{Queue}
 use Rattle.channel.proofs.Slots.{nth-part, length-in-use, used-and-free}
 use Rattle.channel.proofs.Things as things
 use Rattle.layout.specs.Layout.{byte}
@@ -92,7 +92,7 @@ module _ {E M : Type 0} (v : Version E M) (w : ℕ) (μ : Codec w M (λ c. v.Mes
     b = part (1 + most * w) l at
 
     count_at : get_or b 0 0 ≡ byte l at
-    count_at = get_d_part (1 + most * w) l at 0 (omega arith) ∙ ap (byte l) (add-zero at)
+    count_at = get_or-part (1 + most * w) l at 0 (omega arith) ∙ ap (byte l) (add-zero at)
 
     slot_at : (i : ℕ) → i < most → lent (1 + i * w) w b ≡ part w l (at + 1 + w * i)
     slot_at i h =
@@ -124,17 +124,17 @@ module _ {E M : Type 0} (v : Version E M) (w : ℕ) (μ : Codec w M (λ c. v.Mes
           clear = ext_get_or 0 _ _ (simp (length-drop, length-replicate) (omega arith))
               (λ i j.
               let j' : i < length (b l at) - (1 + get_or (b l at) 0 0 * w) = rw length-drop at j in
-              get_or-drop (1 + get_or (b l at) 0 0 * w) (b l at) i 0 ∙ get_d_part (1 + most * w) l at (1 + get_or (b l at) 0 0 * w + i) (omega arith)
+              get_or-drop (1 + get_or (b l at) 0 0 * w) (b l at) i 0 ∙ get_or-part (1 + most * w) l at (1 + get_or (b l at) 0 0 * w + i) (omega arith)
               ∙ table-rest l (at + 1) w most (byte l at) _ (simp facts at t).1 _ (omega arith) (omega (arith, mul_comm w most))
-              ∙ sym (getD-zeros ((most - get_or (b l at) 0 0) * w) i));
+              ∙ sym (get_or-zeros ((most - get_or (b l at) 0 0) * w) i));
         }
 
     -- what holds of the bytes of each slot that passed holds of each slot in use
-    each-slot : (P : List ℕ → Type 0) → ((at : ℕ) → μ.test c l at ≡ true → P (part w l at)) → All P (inUse w (b l at))
-    each-slot P f = all-nth (inUse w (b l at)) [] (λ i h.
+    each-slot : (P : List ℕ → Type 0) → ((at : ℕ) → μ.test c l at ≡ true → P (part w l at)) → All P (in_use w (b l at))
+    each-slot P f = all-nth (in_use w (b l at)) [] (λ i h.
         let n = length-in-use w (b l at) in
         let k = count_at l at in
-        let e : part w l (at + 1 + w * i) ≡ get_or (inUse w (b l at)) i [] =
+        let e : part w l (at + 1 + w * i) ≡ get_or (in_use w (b l at)) i [] =
         sym (slot_at l at i (omega (arith, few))) ∙ nth-part most w i (b l at) queue (omega arith) in
         subst P e (f _ (message-at i (omega arith))))
 
@@ -165,7 +165,7 @@ module _ {E M : Type 0} (v : Version E M) (w : ℕ) (μ : Codec w M (λ c. v.Mes
         let n = count-is in
         let m = at-nth μ.out G.each i (omega arith) in
         μ.passes c m.0 F m.1 l _ B
-        (sym (slot_at l at i (omega arith)) ∙ nth-part most w i (b l at) q (omega (arith, count_at l at)) ∙ ap (λ (x : List ℕ). get_or (inUse w x) i []) e
+        (sym (slot_at l at i (omega arith)) ∙ nth-part most w i (b l at) q (omega (arith, count_at l at)) ∙ ap (λ (x : List ℕ). get_or (in_use w x) i []) e
         ∙ ap (λ (x : List (List ℕ)). get_or x i []) (things.slots-written most w μ.out μ.into long ms) ∙ m.2)
 
     free-zero : (i : ℕ) → at + 1 + w * byte l at ≤ i → i < at + 1 + w * most → byte l i ≡ 0
@@ -174,9 +174,9 @@ module _ {E M : Type 0} (v : Version E M) (w : ℕ) (μ : Codec w M (λ c. v.Mes
         let past : ℕ = 1 + get_or (b l at) 0 0 * w in
         let here = past-slots l at in
         let i' : i ≡ at + (past + (i - at - past)) = omega arith in
-        ap (byte l) i' ∙ sym (get_d_part (1 + most * w) l at (past + (i - at - past)) (omega (arith, mul_comm w most)))
+        ap (byte l) i' ∙ sym (get_or-part (1 + most * w) l at (past + (i - at - past)) (omega (arith, mul_comm w most)))
         ∙ sym (get_or-drop past (b l at) (i - at - past) 0)
-        ∙ ap (λ (ys : List ℕ). get_or ys (i - at - past) 0) q.clear ∙ getD-zeros ((most - get_or (b l at) 0 0) * w) (i - at - past)
+        ∙ ap (λ (ys : List ℕ). get_or ys (i - at - past) 0) q.clear ∙ get_or-zeros ((most - get_or (b l at) 0 0) * w) (i - at - past)
 
     pub passes : test c l at ≡ true
     passes = and_both _ _

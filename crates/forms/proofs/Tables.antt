@@ -15,10 +15,10 @@ use Rattle.bits.specs.Numbers.{Bytes}
 use Rattle.bits.proofs.Parts.{part-splice, part-splice-out, part-whole}
 use Rattle.protocol.specs.Net.{upd2}
 use Rattle.protocol.specs.Shaped.{none}
-use Rattle.protocol.proofs.laws.Maps.{upd2-hit, upd2-miss}
+use Rattle.protocol.proofs.Laws.Maps.{upd2-hit, upd2-miss}
 use Rattle.layout.specs.Bounded.{used}
 use Rattle.layout.proofs.Bounded.{used-in, used-out, by-used}
-use Rattle.forms.specs.Cells.{ifUsed, EachByte}
+use Rattle.forms.specs.Cells.{if_used, EachByte}
 use Rattle.forms.specs.Places.{Place, PlanBounds}
 use Rattle.forms.specs.Tables.{Table, shown, tested, cell}
 use Rattle.forms.proofs.Cells.{is-cell, is_zero, zero-cell}
@@ -38,8 +38,8 @@ HoldsIn {rows} {cols} T m n t l = (i j : ℕ) → i < rows → j < cols → part
 
 -- things that are well shaped wherever they are used, at places c
 pub record ShapedIn {rows cols : ℕ} {A : Type 0} {S : Place → A → Type 0} (T : Table rows cols A S) (m n : ℕ) (c : ℕ → ℕ → Place) (t : ℕ → ℕ → A) : Type 0 where
-  pub fewRows : m ≤ rows
-  pub fewCols : n ≤ cols
+  pub few_rows : m ≤ rows
+  pub few_cols : n ≤ cols
   pub bounds : (i j : ℕ) → i < m → j < n → PlanBounds (c i j)
   pub shaped : (i j : ℕ) → i < m → j < n → S (c i j) (t i j)
 
@@ -77,7 +77,7 @@ module _ {rows cols : ℕ} {A : Type 0} {S : Place → A → Type 0} (T : Table 
     module _ (l : List ℕ) (K : HoldsIn T m n t l) where
       here : (i j : ℕ) → i < m → j < n → part T.grid.width l (T.grid.at i j) ≡ T.codec.out (t i j)
       here i j h k =
-          K i j (omega (arith, F.fewRows)) (omega (arith, F.fewCols)) ∙ ap (λ (x : List ℕ). part T.grid.width x 0) (cell_in t i j h k)
+          K i j (omega (arith, F.few_rows)) (omega (arith, F.few_cols)) ∙ ap (λ (x : List ℕ). part T.grid.width x 0) (cell_in t i j h k)
           ∙ part-whole T.grid.width _ (T.codec.long (t i j) (T.codec.fits (c i j) (t i j) (F.shaped i j h k)))
 
       pub back : (void : A) → ((i j : ℕ) → (m ≤ i) ⊎ (n ≤ j) → t i j ≡ void) → (i j : ℕ) → shown T m n void l i j ≡ t i j
@@ -86,7 +86,7 @@ module _ {rows cols : ℕ} {A : Type 0} {S : Place → A → Type 0} (T : Table 
           (λ o. shown-out void l i j o ∙ sym (z i j o))
 
       pub passed : Bytes l → tested T m n c l ≡ true
-      passed b = T.grid.passes.both l m n _ F.fewRows F.fewCols
+      passed b = T.grid.passes.both l m n _ F.few_rows F.few_cols
           (λ i j h k. T.codec.passes (c i j) (t i j) (F.bounds i j h k) (F.shaped i j h k) l _ b (here i j h k))
           (λ i j x hi hj hx o. zero-cell w l (T.grid.at i j) _ (K i j hi hj) (cell_out t i j o) x hx)
 
@@ -114,7 +114,7 @@ module _ {rows cols : ℕ} {A : Type 0} {S : Place → A → Type 0} (T : Table 
         (λ a b. rw (a, b) (ap (λ (k : ℕ). part k (splice l (T.grid.at i j) vs) (T.grid.at i j)) (sym e) ∙ part-splice l (T.grid.at i j) vs (omega arith)
         ∙ sym (ap (λ (ys : List ℕ). part w ys 0) (cell_in (upd2 t i j v) i j hi hj ∙ ap T.codec.out (upd2-hit t i j v)) ∙ part-whole w vs e)))
         (λ o. part-splice-out w l (T.grid.at i j) vs (T.grid.at x y) (⊎_elim (λ a. inl a) (λ a. inr (omega arith)) (T.grid.laid.apart i j x y (omega arith) (omega arith) hx hy o))
-        ∙ K x y hx hy ∙ ap (λ (u : A). part w (ifUsed (used x m y n) (T.codec.out u)) 0) (sym (upd2-miss t i j v x y (λ a b. ⊎_elim (λ ne. ne a) (λ ne. ne b) o))))
+        ∙ K x y hx hy ∙ ap (λ (u : A). part w (if_used (used x m y n) (T.codec.out u)) 0) (sym (upd2-miss t i j v x y (λ a b. ⊎_elim (λ ne. ne a) (λ ne. ne b) o))))
 
     -- things that are the same wherever they are used
     pub same : (u : ℕ → ℕ → A) → ((i j : ℕ) → i < m → j < n → t i j ≡ u i j) → HoldsIn T m n u l

@@ -9,9 +9,9 @@ cells w zero f = []
 cells w (suc n) f = cells w n f ++ part w (f n) 0
 
 -- what is not used is nothing, so that its cell is all zero
-abbrev pub ifUsed : Bool → List ℕ → List ℕ
-ifUsed true xs = xs
-ifUsed false xs = []
+abbrev pub if_used : Bool → List ℕ → List ℕ
+if_used true xs = xs
+if_used false xs = []
 
 -- each element is a byte
 abbrev pub EachByte : List ℕ → Type 0

@@ -7,6 +7,6 @@ in_row put x i zero = x
 in_row put x i (suc m) = put (in_row put x i m) i m
 
 -- and so in each row below r
-unfoldable pub inRows : {A : Type 0} → (A → ℕ → ℕ → A) → A → ℕ → ℕ → A
-inRows put x zero m = x
-inRows put x (suc r) m = in_row put (inRows put x r m) r m
+unfoldable pub in_rows : {A : Type 0} → (A → ℕ → ℕ → A) → A → ℕ → ℕ → A
+in_rows put x zero m = x
+in_rows put x (suc r) m = in_row put (in_rows put x r m) r m

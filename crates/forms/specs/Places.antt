@@ -1,7 +1,7 @@
 -- A place: what the plan says where a thing stands.
 use Rattle.std.specs.Prelude.{◌≡◌, true, ℕ, ◌≤◌, ◌<◌}
 use Rattle.bits.specs.Masks.{has}
-use Rattle.protocol.specs.Net.{mostStations, mostGroups}
+use Rattle.protocol.specs.Net.{most_stations, most_groups}
 
 pub record Place : Type 0 where
   pub near : ℕ  -- the neighbours of its station
@@ -12,15 +12,15 @@ pub record Place : Type 0 where
   pub col : ℕ
 
 -- a route or a channel: its row is its station
-abbrev pub stationPlace : (nb : ℕ → ℕ) (n g i j : ℕ) → Place
-stationPlace nb n g i j = record { near = nb i; root = 0; stations = n; groups = g; row = i; col = j }
+abbrev pub station_place : (nb : ℕ → ℕ) (n g i j : ℕ) → Place
+station_place nb n g i j = record { near = nb i; root = 0; stations = n; groups = g; row = i; col = j }
 
 -- an entry: its row is its group, its column its station
-abbrev pub entryPlace : (nb r : ℕ → ℕ) (n g i j : ℕ) → Place
-entryPlace nb r n g i j = record { near = nb j; root = r i; stations = n; groups = g; row = i; col = j }
+abbrev pub entry_place : (nb r : ℕ → ℕ) (n g i j : ℕ) → Place
+entry_place nb r n g i j = record { near = nb j; root = r i; stations = n; groups = g; row = i; col = j }
 
 -- what a well-shaped plan makes sure of
 pub record PlanBounds (c : Place) : Type 0 where
-  pub stations : c.stations ≤ mostStations
-  pub groups : c.groups ≤ mostGroups
+  pub stations : c.stations ≤ most_stations
+  pub groups : c.groups ≤ most_groups
   pub near : (x : ℕ) → has c.near x ≡ true → x < c.stations

@@ -3,7 +3,7 @@ use Rattle.std.specs.Prelude.{◌≡◌, Bool, true, cond, List, ℕ, length}
 use Rattle.bits.specs.Parts.{part}
 use Rattle.bits.specs.Numbers.{Bytes}
 use Rattle.layout.specs.Bounded.{used}
-use Rattle.forms.specs.Cells.{ifUsed, EachByte}
+use Rattle.forms.specs.Cells.{if_used, EachByte}
 use Rattle.forms.specs.Places.{Place, PlanBounds}
 use Rattle.forms.specs.Grids.{Grid}
 
@@ -38,4 +38,4 @@ module _ {rows cols : ℕ} {A : Type 0} {S : Place → A → Type 0} (T : Table 
   tested c l = T.grid.pass l m n (λ i j. T.codec.test (c i j) l (T.grid.at i j))
 
   abbrev pub cell : (ℕ → ℕ → A) → ℕ → ℕ → List ℕ
-  cell t i j = ifUsed (used i m j n) (T.codec.out (t i j))
+  cell t i j = if_used (used i m j n) (T.codec.out (t i j))

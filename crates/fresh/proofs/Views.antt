@@ -4,15 +4,15 @@ use mathlib.Core.Bool.{true}
 use mathlib.Core.List.{List}
 use Prim.Native.Nat.{ℕ}
 use Rattle.protocol.specs.Fresh.{fresh}
-use Rattle.protocol.proofs.shape.Changes.{fresh-shaped}
-use Rattle.plan.specs.Planned.{planShaped}
+use Rattle.protocol.proofs.Shape.Changes.{fresh-shaped}
+use Rattle.plan.specs.Planned.{plan_shaped}
 use Rattle.layout.specs.declared.form.Mark.TheVariants.{Saved}
 use Rattle.shape.specs.Shape.{shaped}
 use Rattle.net.specs.View.{view}
 use Rattle.net.specs.Encode.{bytes_of}
-use Rattle.forms.specs.Plans.{planIn}
-use Rattle.forms.proofs.plan.Seen.{plan-seen}
+use Rattle.forms.specs.Plans.{plan_in}
+use Rattle.forms.proofs.Plan.Seen.{plan-seen}
 use Rattle.net.proofs.Forms.{stands}
 
-pub fresh-view : (plan : List ℕ) → planShaped plan ≡ true → (shaped (bytes_of (fresh (planIn plan))) ≡ true) × (view (bytes_of (fresh (planIn plan))) ≡ fresh (planIn plan))
+pub fresh-view : (plan : List ℕ) → plan_shaped plan ≡ true → (shaped (bytes_of (fresh (plan_in plan))) ≡ true) × (view (bytes_of (fresh (plan_in plan))) ≡ fresh (plan_in plan))
 fresh-view plan s = stands Saved _ _ (fresh-shaped _ (plan-seen plan s)) refl

@@ -1,3 +1,3 @@
 -- A fresh net from a plan.
 pub mod Fresh
-pub mod inner
+pub mod Inner

@@ -1,11 +1,13 @@
 // A fresh net from a plan.
+#![tactic(auto)]
+
 ghost use Rattle.std.specs.Prelude.{◌≡◌, ◌≤◌, ◌<◌, length};
-ghost use Rattle.protocol.specs.Net.{mostStations, mostGroups};
+ghost use Rattle.protocol.specs.Net.{most_stations, most_groups};
 ghost use Rattle.protocol.specs.Fresh.{blank};
-ghost use Rattle.layout.specs.Layout.{netLength, planLength, stations, groups};
-ghost use Rattle.fresh.specs.Fresh.{freshOutcome, netAfterFresh};
-ghost use Rattle.forms.specs.Folds.{in_row, inRows};
-ghost use Rattle.fresh.specs.inner.Laying.{routeNil, entryBlank, laid};
+ghost use Rattle.layout.specs.Layout.{net_length, plan_length, stations, groups};
+ghost use Rattle.fresh.specs.Fresh.{fresh_outcome, net_after_fresh};
+ghost use Rattle.forms.specs.Folds.{in_row, in_rows};
+ghost use Rattle.fresh.specs.Inner.Laying.{route_nil, entry_blank, laid};
 
 use bits::copy::put;
 use bits::number::{put32, wide};
@@ -15,8 +17,8 @@ use protocol::{Entry, NIL};
 
 // Station p has no route to any of the n stations.
 fn routes_from(net: &mut [u8], p: usize, n: usize)
-    requires { (length net.old ≡ netLength) × (p < mostStations) × (n ≤ mostStations) }
-    ensures { net.new ≡ in_row routeNil net.old p n }
+    requires { (length net.old ≡ net_length) × (p < most_stations) × (n ≤ most_stations) }
+    ensures { net.new ≡ in_row route_nil net.old p n }
 {
     let mut d = 0;
     while d < n {
@@ -26,8 +28,8 @@ fn routes_from(net: &mut [u8], p: usize, n: usize)
 }
 
 fn routes(net: &mut [u8], n: usize)
-    requires { (length net.old ≡ netLength) × (n ≤ mostStations) }
-    ensures { net.new ≡ inRows routeNil net.old n n }
+    requires { (length net.old ≡ net_length) × (n ≤ most_stations) }
+    ensures { net.new ≡ in_rows route_nil net.old n n }
 {
     let mut p = 0;
     while p < n {
@@ -51,8 +53,8 @@ fn blank() -> Entry
 
 // The entry of station p in group g is blank.
 fn blank_entry(net: &mut [u8], g: usize, p: usize)
-    requires { (length net.old ≡ netLength) × (g < mostGroups) × (p < mostStations) }
-    ensures { net.new ≡ entryBlank net.old g p }
+    requires { (length net.old ≡ net_length) × (g < most_groups) × (p < most_stations) }
+    ensures { net.new ≡ entry_blank net.old g p }
 {
     let a = form::stretch_at(Mark::Saved, g);
     let n = form::stretch_size(Mark::Saved);
@@ -65,8 +67,8 @@ fn blank_entry(net: &mut [u8], g: usize, p: usize)
 
 // So are those of the n stations.
 fn entries_of(net: &mut [u8], g: usize, n: usize)
-    requires { (length net.old ≡ netLength) × (g < mostGroups) × (n ≤ mostStations) }
-    ensures { net.new ≡ in_row entryBlank net.old g n }
+    requires { (length net.old ≡ net_length) × (g < most_groups) × (n ≤ most_stations) }
+    ensures { net.new ≡ in_row entry_blank net.old g n }
 {
     let mut p = 0;
     while p < n {
@@ -76,8 +78,8 @@ fn entries_of(net: &mut [u8], g: usize, n: usize)
 }
 
 fn entries(net: &mut [u8], groups: usize, n: usize)
-    requires { (length net.old ≡ netLength) × (groups ≤ mostGroups) × (n ≤ mostStations) }
-    ensures { net.new ≡ inRows entryBlank net.old groups n }
+    requires { (length net.old ≡ net_length) × (groups ≤ most_groups) × (n ≤ most_stations) }
+    ensures { net.new ≡ in_rows entry_blank net.old groups n }
 {
     let mut g = 0;
     while g < groups {
@@ -88,7 +90,7 @@ fn entries(net: &mut [u8], groups: usize, n: usize)
 
 // The whole net: all zero, but for the plan, the routes and the parents.
 fn lay(plan: &[u8], net: &mut [u8])
-    requires { (length plan.now ≡ planLength) × (stations plan.now ≤ mostStations) × (groups plan.now ≤ mostGroups) × (length net.old ≡ netLength) }
+    requires { (length plan.now ≡ plan_length) × (stations plan.now ≤ most_stations) × (groups plan.now ≤ most_groups) × (length net.old ≡ net_length) }
     ensures { net.new ≡ laid plan.now }
 {
     let n = wide(front::stations(plan));
@@ -101,7 +103,7 @@ fn lay(plan: &[u8], net: &mut [u8])
 
 // A fresh net into any buffer, from any bytes: its outcome number.
 pub fn fresh(plan: &[u8], net: &mut [u8]) -> u8
-    ensures { (result ≡ freshOutcome plan.now net.old) × (net.new ≡ netAfterFresh plan.now net.old) }
+    ensures { (result ≡ fresh_outcome plan.now net.old) × (net.new ≡ net_after_fresh plan.now net.old) }
 {
     if net.len() != offset::NET_LENGTH {
         return 10;

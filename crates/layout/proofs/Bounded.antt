@@ -18,7 +18,7 @@ use Rattle.bits.proofs.Cases.{by-lt, and_l, and_r, and_both}
 use Rattle.bits.specs.Below.{all_below}
 use Rattle.bits.proofs.Below.{all_done, all-at, all_of}
 use Rattle.layout.specs.Layout.{byte}
-use Rattle.layout.specs.Bounded.{all_bytes, zeros, same, table, used, cellPass, gridPass}
+use Rattle.layout.specs.Bounded.{all_bytes, zeros, same, table, used, cell_pass, grid_pass}
 
 -- ---- stretches of bytes
 pub zeros-at : (l : List ℕ) (a e : ℕ) → zeros l a e ≡ true → (i : ℕ) → a ≤ i → i < e → byte l i ≡ 0
@@ -123,34 +123,34 @@ by-used i m j n f g = by-lt i m (λ h. by-lt j n (λ k. f h k) (λ k. g (inr k))
 
 -- ---- a grid, cell by cell
 module _ (l : List ℕ) (at : ℕ → ℕ → ℕ) (w rows cols m n : ℕ) (P : ℕ → ℕ → Bool) where
-  pub cell-used : (i j : ℕ) → used i m j n ≡ true → cellPass l at w m n P i j ≡ P i j
-  unfolding cellPass
+  pub cell-used : (i j : ℕ) → used i m j n ≡ true → cell_pass l at w m n P i j ≡ P i j
+  unfolding cell_pass
   cell-used i j t = rw t
 
-  pub cell_free : (i j : ℕ) → used i m j n ≡ false → cellPass l at w m n P i j ≡ zeros l (at i j) (at i j + w)
-  unfolding cellPass
+  pub cell_free : (i j : ℕ) → used i m j n ≡ false → cell_pass l at w m n P i j ≡ zeros l (at i j) (at i j + w)
+  unfolding cell_pass
   cell_free i j f = rw f
 
-  cell_in : (i j : ℕ) → i < m → j < n → cellPass l at w m n P i j ≡ P i j
+  cell_in : (i j : ℕ) → i < m → j < n → cell_pass l at w m n P i j ≡ P i j
   cell_in i j h k = cell-used i j (used-in i m j n h k)
 
-  cell_out : (i j : ℕ) → (m ≤ i) ⊎ (n ≤ j) → cellPass l at w m n P i j ≡ zeros l (at i j) (at i j + w)
+  cell_out : (i j : ℕ) → (m ≤ i) ⊎ (n ≤ j) → cell_pass l at w m n P i j ≡ zeros l (at i j) (at i j + w)
   cell_out i j o = cell_free i j (used-out i m j n o)
 
-  cell_at : gridPass l at w rows cols m n P ≡ true → (i j : ℕ) → i < rows → j < cols → cellPass l at w m n P i j ≡ true
-  unfolding gridPass
+  cell_at : grid_pass l at w rows cols m n P ≡ true → (i j : ℕ) → i < rows → j < cols → cell_pass l at w m n P i j ≡ true
+  unfolding grid_pass
   cell_at t i j h k = all-at _ cols (all-at _ rows t i h) j k
 
-  pub cells_at : m ≤ rows → n ≤ cols → gridPass l at w rows cols m n P ≡ true → (i j : ℕ) → i < m → j < n → P i j ≡ true
+  pub cells_at : m ≤ rows → n ≤ cols → grid_pass l at w rows cols m n P ≡ true → (i j : ℕ) → i < m → j < n → P i j ≡ true
   cells_at hm hn t i j h k = sym (cell_in i j h k) ∙ cell_at t i j (omega arith) (omega arith)
 
-  pub cells_rest : gridPass l at w rows cols m n P ≡ true
+  pub cells_rest : grid_pass l at w rows cols m n P ≡ true
       → (i j x : ℕ) → i < rows → j < cols → x < w → (m ≤ i) ⊎ (n ≤ j) → byte l (at i j + x) ≡ 0
   cells_rest t i j x hi hj hx o = zeros-at l (at i j) (at i j + w) (sym (cell_out i j o) ∙ cell_at t i j hi hj) (at i j + x) (omega arith) (omega arith)
 
   pub cells_of : ((i j : ℕ) → i < m → j < n → P i j ≡ true)
-      → ((i j x : ℕ) → i < rows → j < cols → x < w → (m ≤ i) ⊎ (n ≤ j) → byte l (at i j + x) ≡ 0) → gridPass l at w rows cols m n P ≡ true
-  unfolding gridPass
+      → ((i j x : ℕ) → i < rows → j < cols → x < w → (m ≤ i) ⊎ (n ≤ j) → byte l (at i j + x) ≡ 0) → grid_pass l at w rows cols m n P ≡ true
+  unfolding grid_pass
   cells_of f z = all_of _ rows (λ i hi. all_of _ cols (λ j hj. by-used i m j n
       (λ h k. cell_in i j h k ∙ f i j h k)
       (λ o. cell_out i j o ∙ zeros_of l (at i j) (at i j + w) (λ y a b.

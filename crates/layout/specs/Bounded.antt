@@ -27,8 +27,8 @@ used i m j n = ltb i m && ltb j n
 
 -- a grid of cells of `size` bytes, (i, j) at `at i j`, of which those in the first m rows and n columns are used: P passes at each used
 -- one, and "every byte of an unused" one "is zero"
-unfoldable pub cellPass : List ℕ → (ℕ → ℕ → ℕ) → (size m n : ℕ) → (ℕ → ℕ → Bool) → ℕ → ℕ → Bool
-cellPass l at size m n P i j = cond (used i m j n) (P i j) (zeros l (at i j) (at i j + size))
+unfoldable pub cell_pass : List ℕ → (ℕ → ℕ → ℕ) → (size m n : ℕ) → (ℕ → ℕ → Bool) → ℕ → ℕ → Bool
+cell_pass l at size m n P i j = cond (used i m j n) (P i j) (zeros l (at i j) (at i j + size))
 
-unfoldable pub gridPass : List ℕ → (ℕ → ℕ → ℕ) → (size rows cols m n : ℕ) → (ℕ → ℕ → Bool) → Bool
-gridPass l at size rows cols m n P = all_below rows (λ i. all_below cols (cellPass l at size m n P i))
+unfoldable pub grid_pass : List ℕ → (ℕ → ℕ → ℕ) → (size rows cols m n : ℕ) → (ℕ → ℕ → Bool) → Bool
+grid_pass l at size rows cols m n P = all_below rows (λ i. all_below cols (cell_pass l at size m n P i))

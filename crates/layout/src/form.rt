@@ -1,8 +1,8 @@
 // A form of a net's bytes: its mark in byte 7, and where the station entries stand.
 ghost use Rattle.std.specs.Prelude.{◌≡◌, ◌+◌, ◌≤◌, ◌<◌, length};
-ghost use Rattle.protocol.specs.Net.{mostGroups, mostStations};
-ghost use Rattle.layout.specs.Layout.{planLength, entrySize, channelsAt};
-ghost use Rattle.layout.specs.Marks.{markByte, mark_of, byGroup, byStation, stretchAt, stretchSize, inStretch, entryAt};
+ghost use Rattle.protocol.specs.Net.{most_groups, most_stations};
+ghost use Rattle.layout.specs.Layout.{plan_length, entry_size, channels_at};
+ghost use Rattle.layout.specs.Marks.{mark_byte, mark_of, by_group, by_station, stretch_at, stretch_size, in_stretch, entry_at};
 
 use crate::offset::{ENTRIES_AT, ENTRY_SIZE, GROUP_ENTRIES_SIZE, STATION_ENTRIES_SIZE};
 use protocol::MOST_STATIONS;
@@ -16,7 +16,7 @@ pub enum Mark {
 
 // Byte 7 of a net in this form.
 pub fn mark_byte(m: Mark) -> u8
-    ensures { result ≡ markByte m }
+    ensures { result ≡ mark_byte m }
 {
     match m {
         Mark::Saved => 0,
@@ -26,7 +26,7 @@ pub fn mark_byte(m: Mark) -> u8
 
 // The form that byte 7 says.
 pub fn mark_of(s: &[u8]) -> Mark
-    requires { planLength ≤ length s.now }
+    requires { plan_length ≤ length s.now }
     ensures { result ≡ mark_of s.now }
 {
     if s[7] == 1 {
@@ -38,7 +38,7 @@ pub fn mark_of(s: &[u8]) -> Mark
 
 // How far it is from a group's entry to the next group's.
 pub fn by_group(m: Mark) -> usize
-    ensures { result ≡ byGroup m }
+    ensures { result ≡ by_group m }
 {
     match m {
         Mark::Saved => GROUP_ENTRIES_SIZE,
@@ -48,7 +48,7 @@ pub fn by_group(m: Mark) -> usize
 
 // How far it is from a station's entry to the next station's.
 pub fn by_station(m: Mark) -> usize
-    ensures { result ≡ byStation m }
+    ensures { result ≡ by_station m }
 {
     match m {
         Mark::Saved => ENTRY_SIZE,
@@ -58,30 +58,30 @@ pub fn by_station(m: Mark) -> usize
 
 // Where the stretch of group g's entries begins, from its first to its last.
 pub fn stretch_at(m: Mark, g: usize) -> usize
-    requires { g < mostGroups }
-    ensures { (result ≡ stretchAt m g) × (result + stretchSize m ≤ channelsAt) }
+    requires { g < most_groups }
+    ensures { (result ≡ stretch_at m g) × (result + stretch_size m ≤ channels_at) }
 {
     ENTRIES_AT + by_group(m) * g
 }
 
 pub fn stretch_size(m: Mark) -> usize
-    ensures { result ≡ stretchSize m }
+    ensures { result ≡ stretch_size m }
 {
     by_station(m) * (MOST_STATIONS - 1) + ENTRY_SIZE
 }
 
 // How far into it the entry of station p stands.
 pub fn in_stretch(m: Mark, p: usize) -> usize
-    requires { p < mostStations }
-    ensures { (result ≡ inStretch m p) × (result + entrySize ≤ stretchSize m) }
+    requires { p < most_stations }
+    ensures { (result ≡ in_stretch m p) × (result + entry_size ≤ stretch_size m) }
 {
     by_station(m) * p
 }
 
 // Where the entry of group g and station p stands.
 pub fn entry_at(m: Mark, g: usize, p: usize) -> usize
-    requires { (g < mostGroups) × (p < mostStations) }
-    ensures { (result ≡ entryAt m g p) × (result + entrySize ≤ channelsAt) }
+    requires { (g < most_groups) × (p < most_stations) }
+    ensures { (result ≡ entry_at m g p) × (result + entry_size ≤ channels_at) }
 {
     stretch_at(m, g) + in_stretch(m, p)
 }

@@ -1,7 +1,7 @@
 // The lengths and offsets of specs/Layout.antt, as the code has them.
 ghost use Rattle.std.specs.Prelude.{◌≡◌, ◌+◌, ◌≤◌, ◌<◌};
-ghost use Rattle.protocol.specs.Net.{mostGroups, mostStations};
-ghost use Rattle.layout.specs.Layout.{groupAt, maskAt, routeAt, channelAt, channelSize, entries_at, groupSize, maskSize, masks_at, netLength, routesAt};
+ghost use Rattle.protocol.specs.Net.{most_groups, most_stations};
+ghost use Rattle.layout.specs.Layout.{group_at, mask_at, route_at, channel_at, channel_size, entries_at, group_size, mask_size, masks_at, net_length, routes_at};
 
 pub const NET_LENGTH: usize = 15728;
 
@@ -39,29 +39,29 @@ pub const CHANNEL_ROW_SIZE: usize = 912;
 pub const MESSAGE_SIZE: usize = 7;
 
 pub fn group_at(g: usize) -> usize
-    requires { g < mostGroups }
-    ensures { (result ≡ groupAt g) × (result + groupSize ≤ masks_at) }
+    requires { g < most_groups }
+    ensures { (result ≡ group_at g) × (result + group_size ≤ masks_at) }
 {
     GROUPS_AT + GROUP_SIZE * g
 }
 
 pub fn mask_at(p: usize) -> usize
-    requires { p < mostStations }
-    ensures { (result ≡ maskAt p) × (result + maskSize ≤ routesAt) }
+    requires { p < most_stations }
+    ensures { (result ≡ mask_at p) × (result + mask_size ≤ routes_at) }
 {
     MASKS_AT + MASK_SIZE * p
 }
 
 pub fn route_at(p: usize, d: usize) -> usize
-    requires { (p < mostStations) × (d < mostStations) }
-    ensures { (result ≡ routeAt p d) × (result < entries_at) }
+    requires { (p < most_stations) × (d < most_stations) }
+    ensures { (result ≡ route_at p d) × (result < entries_at) }
 {
     ROUTES_AT + ROUTE_ROW_SIZE * p + d
 }
 
 pub fn channel_at(s: usize, d: usize) -> usize
-    requires { (s < mostStations) × (d < mostStations) }
-    ensures { (result ≡ channelAt s d) × (result + channelSize ≤ netLength) }
+    requires { (s < most_stations) × (d < most_stations) }
+    ensures { (result ≡ channel_at s d) × (result + channel_size ≤ net_length) }
 {
     CHANNELS_AT + CHANNEL_ROW_SIZE * s + CHANNEL_SIZE * d
 }

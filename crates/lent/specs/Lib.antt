@@ -1,3 +1,3 @@
 -- Records that the caller lends.
 pub mod Lists
-pub mod inner
+pub mod Inner

@@ -1,8 +1,8 @@
 // The reach list is "a lent list of exactly 16 entries, one record each".
 ghost use Rattle.std.specs.Prelude.{◌≡◌, ◌<◌, length};
-ghost use Rattle.protocol.specs.Net.{mostStations};
-ghost use Rattle.lent.specs.Lists.{calledRecord, calledOn, recordsAfterCall};
-ghost use Rattle.lent.specs.inner.Filling.{fillingOf, reachAt, FillsList};
+ghost use Rattle.protocol.specs.Net.{most_stations};
+ghost use Rattle.lent.specs.Lists.{called_record, called_on, records_after_call};
+ghost use Rattle.lent.specs.Inner.Filling.{filling_of, reach_at, FillsList};
 
 use protocol::{MOST_STATIONS, NIL};
 use tree::Reach;
@@ -26,7 +26,7 @@ pub struct Filling {
 
 // An answer and the bytes beside it: 16 entries are to be filled, and none on a refusal.
 fn filling_of(answer: call::Answer, bytes: [u8; LIST_LENGTH]) -> Filling
-    ensures { result ≡ fillingOf answer bytes }
+    ensures { result ≡ filling_of answer bytes }
 {
     match answer {
         call::Answer::Reached(r, k) => Filling {
@@ -66,8 +66,8 @@ fn call_bytes(net: &[u8], g: u8, c: u8, n: usize) -> Filling
 
 // Entry i of the bytes.
 fn reach_at(k: Filling, i: usize) -> Reach
-    requires { i < mostStations }
-    ensures { result ≡ reachAt k.bytes i }
+    requires { i < most_stations }
+    ensures { result ≡ reach_at k.bytes i }
 {
     let bytes = k.bytes;
     let at = 3 * i;
@@ -80,8 +80,8 @@ fn reach_at(k: Filling, i: usize) -> Reach
 
 // The call of any station of any group in any bytes, into any list of records.
 pub fn call(net: &[u8], g: u8, c: u8, list: &mut [Reach]) -> Called
-    ensures { (result ≡ calledRecord (calledOn net.now g c (length list.old)))
-        × (list.new ≡ recordsAfterCall net.now g c list.old) }
+    ensures { (result ≡ called_record (called_on net.now g c (length list.old)))
+        × (list.new ≡ records_after_call net.now g c list.old) }
 {
     let k = call_bytes(net, g, c, list.len());
     let m = k.fill;

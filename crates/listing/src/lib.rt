@@ -1,3 +1,5 @@
 // What the bench program prints.
+#![tactic(auto)]
+
 pub mod lines;
 pub mod report;

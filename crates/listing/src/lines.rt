@@ -1,10 +1,10 @@
 // The lines of the listing. Each function answers the place after what it put.
 ghost use Rattle.std.specs.Prelude.{◌≡◌, ◌+◌, ◌≤◌, ◌<◌, length};
-ghost use Rattle.protocol.specs.Net.{Net, inChannels};
+ghost use Rattle.protocol.specs.Net.{Net, in_channels};
 ghost use Rattle.net.specs.View.{view};
-ghost use Rattle.access.specs.inner.Nets.{IsNet};
-ghost use Rattle.text.specs.inner.Within.{WroteWithin};
-ghost use Rattle.listing.specs.Lines.{runLine, repliesLine, stationLine, stationLines, groupLine, groupTexts, listing, refusedText};
+ghost use Rattle.access.specs.Inner.Nets.{IsNet};
+ghost use Rattle.text.specs.Inner.Within.{WroteWithin};
+ghost use Rattle.listing.specs.Lines.{run_line, replies_line, station_line, station_lines, group_line, group_texts, listing, refused_text};
 
 use protocol::{Replies, Tally};
 use text::{put_byte, put_filled, put_filled_one, put_hex, put_mask_or_dash};
@@ -12,7 +12,7 @@ use text::{put_byte, put_filled, put_filled_one, put_hex, put_mask_or_dash};
 // The tally, and how many messages are left in channels.
 fn run_line(out: &mut [u8], at: usize, t: Tally, left: u32) -> usize
     requires { at + 115 ≤ length out.old }
-    ensures { WroteWithin 115 out.old out.new at result (runLine t left) }
+    ensures { WroteWithin 115 out.old out.new at result (run_line t left) }
 {
     put_filled(
         out,
@@ -25,7 +25,7 @@ fn run_line(out: &mut [u8], at: usize, t: Tally, left: u32) -> usize
 // The counts of the replies, by case.
 fn replies_line(out: &mut [u8], at: usize, r: Replies) -> usize
     requires { at + 98 ≤ length out.old }
-    ensures { WroteWithin 98 out.old out.new at result (repliesLine r) }
+    ensures { WroteWithin 98 out.old out.new at result (replies_line r) }
 {
     put_filled(
         out,
@@ -39,7 +39,7 @@ fn replies_line(out: &mut [u8], at: usize, r: Replies) -> usize
 fn station_line(net: &[u8], g: u8, p: u8, out: &mut [u8], at: usize) -> usize
     requires net { IsNet net.now }
     requires g_bound { (g < (view net.now).groups) × (p < (view net.now).stations) × (at + 251 ≤ length out.old) }
-    ensures { WroteWithin 251 out.old out.new at result (stationLine (view net.now) g p) }
+    ensures { WroteWithin 251 out.old out.new at result (station_line (view net.now) g p) }
 {
     let e = access::read::entry_of(net, g, p);
     let mut next = put_filled(
@@ -56,7 +56,7 @@ fn station_line(net: &[u8], g: u8, p: u8, out: &mut [u8], at: usize) -> usize
 fn station_lines(net: &[u8], g: u8, out: &mut [u8], at: usize) -> usize
     requires net { IsNet net.now }
     requires g_bound { (g < (view net.now).groups) × (at + 4016 ≤ length out.old) }
-    ensures { WroteWithin 4016 out.old out.new at result (stationLines (view net.now) g) }
+    ensures { WroteWithin 4016 out.old out.new at result (station_lines (view net.now) g) }
 {
     let n = access::read::stations(net);
     let mut next = at;
@@ -72,7 +72,7 @@ fn station_lines(net: &[u8], g: u8, out: &mut [u8], at: usize) -> usize
 fn group_line(net: &[u8], g: u8, out: &mut [u8], at: usize) -> usize
     requires net { IsNet net.now }
     requires g_bound { (g < (view net.now).groups) × (at + 71 ≤ length out.old) }
-    ensures { WroteWithin 71 out.old out.new at result (groupLine (view net.now) g) }
+    ensures { WroteWithin 71 out.old out.new at result (group_line (view net.now) g) }
 {
     let mut next = put_filled_one(out, at, b"group # name ", g as u32);
     next = put_hex(out, next, access::read::name_of(net, g));
@@ -84,7 +84,7 @@ fn group_line(net: &[u8], g: u8, out: &mut [u8], at: usize) -> usize
 fn group_texts(net: &[u8], out: &mut [u8], at: usize) -> usize
     requires net { IsNet net.now }
     requires at_in_bounds { at + 16348 ≤ length out.old }
-    ensures { WroteWithin 16348 out.old out.new at result (groupTexts (view net.now)) }
+    ensures { WroteWithin 16348 out.old out.new at result (group_texts (view net.now)) }
 {
     let n = access::read::groups(net);
     let mut next = at;
@@ -100,7 +100,7 @@ fn group_texts(net: &[u8], out: &mut [u8], at: usize) -> usize
 // The listing of a net after a run that began with no message: those sent, and not delivered or lost, are left in channels.
 pub fn listing(net: &[u8], t: Tally, out: &mut [u8]) -> usize
     requires net { IsNet net.now }
-    requires sent_value { (t.sent ≡ t.delivered + t.lost + inChannels (view net.now)) × (16561 ≤ length out.old) }
+    requires sent_value { (t.sent ≡ t.delivered + t.lost + in_channels (view net.now)) × (16561 ≤ length out.old) }
     ensures { WroteWithin 16561 out.old out.new 0 result (listing (view net.now) t) }
 {
     let mut next = run_line(out, 0, t, t.sent - t.delivered - t.lost);
@@ -111,7 +111,7 @@ pub fn listing(net: &[u8], t: Tally, out: &mut [u8]) -> usize
 // The refusal, with its number.
 pub fn refused_text(out: &mut [u8], k: u8) -> usize
     requires { 19 ≤ length out.old }
-    ensures { WroteWithin 19 out.old out.new 0 result (refusedText k) }
+    ensures { WroteWithin 19 out.old out.new 0 result (refused_text k) }
 {
     put_filled_one(out, 0, b"refused #\n", k as u32)
 }

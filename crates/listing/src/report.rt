@@ -2,23 +2,23 @@
 ghost use Rattle.std.specs.Prelude.{◌≡◌, ◌≤◌, ◌<◌, length};
 ghost use Rattle.bits.specs.Parts.{Wrote};
 ghost use Rattle.protocol.specs.Fresh.{fresh};
-ghost use Rattle.layout.specs.Layout.{netLength};
+ghost use Rattle.layout.specs.Layout.{net_length};
 ghost use Rattle.net.specs.Encode.{bytes_of};
-ghost use Rattle.listing.specs.Bench.{planPart, textRoom, storedOutcome, storedText};
-ghost use Rattle.forms.specs.Plans.{planIn};
+ghost use Rattle.listing.specs.Bench.{plan_part, text_room, stored_outcome, stored_text};
+ghost use Rattle.forms.specs.Plans.{plan_in};
 
 use crate::lines;
 use layout::offset::{NET_LENGTH, PLAN_LENGTH};
 
-// `storedLength` and `textRoom` of specs/Bench.antt: a plan and the longest script, and room for every text.
+// `stored_length` and `text_room` of specs/Bench.antt: a plan and the longest script, and room for every text.
 pub const STORED_LENGTH: usize = 16496;
 
 pub const TEXT_ROOM: usize = 16640;
 
 // What the input is refused with, or 0: then the net is fresh from its plan.
 fn stored_outcome(stored: &[u8], beyond: usize, net: &mut [u8]) -> u8
-    requires { (beyond < 9223372036854775808) × (length net.old ≡ netLength) }
-    ensures { (result ≡ storedOutcome stored.now beyond) × (result ≡ 0 → net.new ≡ bytes_of (fresh (planIn (planPart stored.now)))) }
+    requires { (beyond < 9223372036854775808) × (length net.old ≡ net_length) }
+    ensures { (result ≡ stored_outcome stored.now beyond) × (result ≡ 0 → net.new ≡ bytes_of (fresh (plan_in (plan_part stored.now)))) }
 {
     if stored.len() < PLAN_LENGTH {
         return 9;
@@ -31,8 +31,8 @@ fn stored_outcome(stored: &[u8], beyond: usize, net: &mut [u8]) -> u8
 
 // The report on the bytes that are stored of an input, where `beyond` more were counted.
 pub fn report(stored: &[u8], beyond: usize, out: &mut [u8]) -> usize
-    requires { (textRoom ≤ length out.old) × (beyond < 9223372036854775808) }
-    ensures { Wrote out.old out.new 0 result (storedText stored.now beyond) × (result ≤ textRoom) }
+    requires { (text_room ≤ length out.old) × (beyond < 9223372036854775808) }
+    ensures { Wrote out.old out.new 0 result (stored_text stored.now beyond) × (result ≤ text_room) }
 {
     let mut net = [0u8; NET_LENGTH];
     let k = stored_outcome(stored, beyond, &mut net);

@@ -1,10 +1,12 @@
 // 8. Member: the flag is set, and the station leaves if it no longer joins.
+#![tactic(auto)]
+
 ghost use Rattle.std.specs.Prelude.{◌≡◌};
 ghost use Rattle.protocol.specs.Rules as rule;
 ghost use Rattle.layout.specs.Marks.{mark_of};
 ghost use Rattle.net.specs.View.{view};
-ghost use Rattle.access.specs.inner.Nets.{IsNet};
-ghost use Rattle.action.specs.inner.Ends.{ActionEnd};
+ghost use Rattle.access.specs.Inner.Nets.{IsNet};
+ghost use Rattle.action.specs.Inner.Ends.{ActionEnd};
 
 use action::Answer;
 use action::operands::of_flag;

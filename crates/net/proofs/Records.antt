@@ -10,16 +10,16 @@ use Rattle.bits.specs.Numbers.{Bytes, number, onto, bytes}
 use Rattle.bits.specs.Parts.{number_at, part, splice}
 use Rattle.bits.proofs.Cases.{by-lt}
 use Rattle.bits.proofs.Numbers.{length-bytes, number-bytes}
-use Rattle.bits.proofs.Parts.{get_d_part, numberAt-part, bytes-numberAt, part-all, splice-append, getD-zeros}
+use Rattle.bits.proofs.Parts.{get_or-part, number_at-part, bytes-number_at, part-all, splice-append, get_or-zeros}
 use Rattle.protocol.specs.declared.Entry.{Entry}
-use Rattle.protocol.specs.Entries.{withParents, withMember, withClock, withChildren, withWaiting}
+use Rattle.protocol.specs.Entries.{with_parents, with_member, with_clock, with_children, with_waiting}
 use Rattle.net.specs.View.{entry_of}
-use Rattle.net.specs.Encode.{entryBytes}
+use Rattle.net.specs.Encode.{entry_bytes}
 
 -- ---- entries
-pub length-entryBytes : (e : Entry) → length (entryBytes e) ≡ 12
-unfolding entryBytes
-length-entryBytes e = simp (length-append, length-bytes)
+pub length-entry_bytes : (e : Entry) → length (entry_bytes e) ≡ 12
+unfolding entry_bytes
+length-entry_bytes e = simp (length-append, length-bytes)
 
 four : (l : List ℕ) (a v w x y : ℕ) → set (set (set (set l a v) (a + 1) w) (a + 2) x) (a + 3) y ≡ splice l a (v ∷ w ∷ x ∷ y ∷ [])
 unfolding splice
@@ -28,8 +28,8 @@ four l a v w x y = simp towards_suc
 -- an entry's bytes, stored field by field
 pub stores : (l : List ℕ) (a : ℕ) (e : Entry)
     → splice (splice (splice (set (set (set (set l a e.parent) (a + 1) e.tentative) (a + 2) e.member) (a + 3) 0) (a + 4) (bytes 4 e.clock)) (a + 8) (bytes 2 e.children)) (a + 10) (bytes 2 e.waiting)
-    ≡ splice l a (entryBytes e)
-unfolding entryBytes bytes
+    ≡ splice l a (entry_bytes e)
+unfolding entry_bytes bytes
 stores l a e =
     let b4 : List ℕ = bytes 4 e.clock in
     let b2 : List ℕ = bytes 2 e.children in
@@ -41,28 +41,28 @@ stores l a e =
     ∙ splice-append l a (h ++ b4 ++ b2) (bytes 2 e.waiting)
 
 -- a field put anew among an entry's bytes
-pub parent-put : (e : Entry) (q : ℕ) → splice (entryBytes e) 0 (q ∷ []) ≡ entryBytes (withParents e q e.tentative)
-unfolding entryBytes bytes splice
+pub parent-put : (e : Entry) (q : ℕ) → splice (entry_bytes e) 0 (q ∷ []) ≡ entry_bytes (with_parents e q e.tentative)
+unfolding entry_bytes bytes splice
 parent-put e q = refl
 
-pub tentative-put : (e : Entry) (q : ℕ) → splice (entryBytes e) 1 (q ∷ []) ≡ entryBytes (withParents e e.parent q)
-unfolding entryBytes bytes splice
+pub tentative-put : (e : Entry) (q : ℕ) → splice (entry_bytes e) 1 (q ∷ []) ≡ entry_bytes (with_parents e e.parent q)
+unfolding entry_bytes bytes splice
 tentative-put e q = refl
 
-pub member-put : (e : Entry) (v : ℕ) → splice (entryBytes e) 2 (v ∷ []) ≡ entryBytes (withMember e v)
-unfolding entryBytes bytes splice
+pub member-put : (e : Entry) (v : ℕ) → splice (entry_bytes e) 2 (v ∷ []) ≡ entry_bytes (with_member e v)
+unfolding entry_bytes bytes splice
 member-put e v = refl
 
-pub clock-put : (e : Entry) (k : ℕ) → splice (entryBytes e) 4 (bytes 4 k) ≡ entryBytes (withClock e k)
-unfolding entryBytes bytes splice
+pub clock-put : (e : Entry) (k : ℕ) → splice (entry_bytes e) 4 (bytes 4 k) ≡ entry_bytes (with_clock e k)
+unfolding entry_bytes bytes splice
 clock-put e k = refl
 
-pub children-put : (e : Entry) (m : ℕ) → splice (entryBytes e) 8 (bytes 2 m) ≡ entryBytes (withChildren e m)
-unfolding entryBytes bytes splice
+pub children-put : (e : Entry) (m : ℕ) → splice (entry_bytes e) 8 (bytes 2 m) ≡ entry_bytes (with_children e m)
+unfolding entry_bytes bytes splice
 children-put e m = refl
 
-pub waiting-put : (e : Entry) (m : ℕ) → splice (entryBytes e) 10 (bytes 2 m) ≡ entryBytes (withWaiting e m)
-unfolding entryBytes bytes splice
+pub waiting-put : (e : Entry) (m : ℕ) → splice (entry_bytes e) 10 (bytes 2 m) ≡ entry_bytes (with_waiting e m)
+unfolding entry_bytes bytes splice
 waiting-put e m = refl
 
 -- the fields of an entry, read where they stand
@@ -71,12 +71,12 @@ pub fields : (l : List ℕ) (o : ℕ) → entry_of (part 12 l o) ≡
 unfolding entry_of
 fields l o i =
     record {
-      parent = (get_d_part 12 l o 0 (omega arith) ∙ ap (λ (n : ℕ). get_or l n 0) (add-zero o)) i;
-      tentative = get_d_part 12 l o 1 (omega arith) i;
-      member = get_d_part 12 l o 2 (omega arith) i;
-      clock = numberAt-part 4 12 l o 4 (omega arith) i;
-      children = numberAt-part 2 12 l o 8 (omega arith) i;
-      waiting = numberAt-part 2 12 l o 10 (omega arith) i;
+      parent = (get_or-part 12 l o 0 (omega arith) ∙ ap (λ (n : ℕ). get_or l n 0) (add-zero o)) i;
+      tentative = get_or-part 12 l o 1 (omega arith) i;
+      member = get_or-part 12 l o 2 (omega arith) i;
+      clock = number_at-part 4 12 l o 4 (omega arith) i;
+      children = number_at-part 2 12 l o 8 (omega arith) i;
+      waiting = number_at-part 2 12 l o 10 (omega arith) i;
     }
 
 -- an entry whose numbers fit comes back
@@ -85,8 +85,8 @@ pub record FitsEntry (e : Entry) : Type 0 where
   pub children : e.children < 2 ^ 16
   pub waiting : e.waiting < 2 ^ 16
 
-pub entry-back : (e : Entry) → FitsEntry e → entry_of (entryBytes e) ≡ e
-unfolding entry_of entryBytes bytes number_at part
+pub entry-back : (e : Entry) → FitsEntry e → entry_of (entry_bytes e) ≡ e
+unfolding entry_of entry_bytes bytes number_at part
 entry-back e h i =
     record {
       parent = e.parent;
@@ -98,10 +98,10 @@ entry-back e h i =
     }
 
 -- twelve bytes whose fourth is zero come back
-pub entry-form : (b : List ℕ) → length b ≡ 12 → Bytes b → get_or b 3 0 ≡ 0 → entryBytes (entry_of b) ≡ b
-unfolding entry_of entryBytes part
+pub entry-form : (b : List ℕ) → length b ≡ 12 → Bytes b → get_or b 3 0 ≡ 0 → entry_bytes (entry_of b) ≡ b
+unfolding entry_of entry_bytes part
 entry-form b n h z =
-    rw (bytes-numberAt 4 b 4 h, bytes-numberAt 2 b 8 h, bytes-numberAt 2 b 10 h)
+    rw (bytes-number_at 4 b 4 h, bytes-number_at 2 b 8 h, bytes-number_at 2 b 10 h)
     (ap (λ (x : ℕ). get_or b 0 0 ∷ get_or b 1 0 ∷ get_or b 2 0 ∷ x ∷ part 8 b 4) (sym z) ∙ rw n at (part-all b))
 
 -- ---- messages
@@ -115,5 +115,5 @@ unfolding bytes
 bare-bytes s h c k x a b =
     by-lt x 3 (λ j. ap (λ (y : ℕ). get_or s y 0) (omega arith) ∙ c)
     (λ j.
-    let e : part 4 s 3 ≡ replicate 4 0 = sym (bytes-numberAt 4 s 3 h) ∙ ap (bytes 4) k in
-    ap (λ (y : ℕ). get_or s y 0) (omega arith) ∙ sym (get_d_part 4 s 3 (x - 3) (omega arith)) ∙ ap (λ (ys : List ℕ). get_or ys (x - 3) 0) e ∙ getD-zeros 4 (x - 3))
+    let e : part 4 s 3 ≡ replicate 4 0 = sym (bytes-number_at 4 s 3 h) ∙ ap (bytes 4) k in
+    ap (λ (y : ℕ). get_or s y 0) (omega arith) ∙ sym (get_or-part 4 s 3 (x - 3) (omega arith)) ∙ ap (λ (ys : List ℕ). get_or ys (x - 3) 0) e ∙ get_or-zeros 4 (x - 3))

@@ -5,11 +5,11 @@ use Rattle.bits.specs.Parts.{number_at, part}
 use Rattle.protocol.specs.declared.Entry.{Entry}
 use Rattle.protocol.specs.Net.{Net, nil}
 use Rattle.protocol.specs.Fresh.{blank}
-use Rattle.layout.specs.Layout.{stations, groups, route, entrySize, channelSize, channelAt}
-use Rattle.layout.specs.Marks.{mark_of, entryAt}
+use Rattle.layout.specs.Layout.{stations, groups, route, entry_size, channel_size, channel_at}
+use Rattle.layout.specs.Marks.{mark_of, entry_at}
 use Rattle.layout.specs.Bounded.{used}
-use Rattle.channel.specs.Messages.{messagesOf}
-use Rattle.forms.specs.Plans.{planIn}
+use Rattle.channel.specs.Messages.{messages_of}
+use Rattle.forms.specs.Plans.{plan_in}
 
 -- an entry from its bytes: "parent, tentative parent, member, zero, clock (4), children mask (2), waiting mask (2)"
 unfoldable pub entry_of : List ℕ → Entry
@@ -26,12 +26,12 @@ entry_of b =
 unfoldable pub view : List ℕ → Net
 view l =
     record {
-      stations = (planIn l).stations;
-      groups = (planIn l).groups;
-      name = (planIn l).name;
-      root = (planIn l).root;
-      neighbours = (planIn l).neighbours;
+      stations = (plan_in l).stations;
+      groups = (plan_in l).groups;
+      name = (plan_in l).name;
+      root = (plan_in l).root;
+      neighbours = (plan_in l).neighbours;
       route = λ p d. cond (used p (stations l) d (stations l)) (route l p d) nil;
-      entry = λ g p. cond (used g (groups l) p (stations l)) (entry_of (part entrySize l (entryAt (mark_of l) g p))) blank;
-      channel = λ s d. cond (used s (stations l) d (stations l)) (messagesOf (part channelSize l (channelAt s d))) [];
+      entry = λ g p. cond (used g (groups l) p (stations l)) (entry_of (part entry_size l (entry_at (mark_of l) g p))) blank;
+      channel = λ s d. cond (used s (stations l) d (stations l)) (messages_of (part channel_size l (channel_at s d))) [];
     }

@@ -1,9 +1,9 @@
 // The cables: each station's mask of neighbours.
 ghost use Rattle.std.specs.Prelude.{◌≡◌, ◌≤◌, ◌<◌, length};
-ghost use Rattle.protocol.specs.Net.{mostStations};
+ghost use Rattle.protocol.specs.Net.{most_stations};
 ghost use Rattle.bits.specs.Below.{all_below};
 ghost use Rattle.layout.specs.Bounded.{table};
-ghost use Rattle.layout.specs.Layout.{planLength, masks_at, maskSize};
+ghost use Rattle.layout.specs.Layout.{plan_length, masks_at, mask_size};
 ghost use Rattle.plan.specs.Planned as planned;
 
 use layout::front::neighbours;
@@ -12,15 +12,15 @@ use layout::stretch::zeros;
 
 // Whether q has p for a neighbour if p has q.
 fn both_ways(s: &[u8], p: usize, q: usize) -> bool
-    requires { (planLength ≤ length s.now) × (p < mostStations) × (q < mostStations) }
-    ensures { result ≡ planned.bothWays s.now p q }
+    requires { (plan_length ≤ length s.now) × (p < most_stations) × (q < most_stations) }
+    ensures { result ≡ planned.both_ways s.now p q }
 {
     !bits::mask::has_at(neighbours(s, p), q) | bits::mask::has_at(neighbours(s, q), p)
 }
 
 fn all_both_ways(s: &[u8], n: usize, p: usize) -> bool
-    requires { (planLength ≤ length s.now) × (n ≤ mostStations) × (p < mostStations) }
-    ensures { result ≡ all_below n (planned.bothWays s.now p) }
+    requires { (plan_length ≤ length s.now) × (n ≤ most_stations) × (p < most_stations) }
+    ensures { result ≡ all_below n (planned.both_ways s.now p) }
 {
     let mut ok = true;
     for q in 0..n {
@@ -30,16 +30,16 @@ fn all_both_ways(s: &[u8], n: usize, p: usize) -> bool
 }
 
 fn station_cabled(s: &[u8], n: usize, p: usize) -> bool
-    requires { (planLength ≤ length s.now) × (n ≤ mostStations) × (p < mostStations) }
-    ensures { result ≡ planned.stationCabled s.now n p }
+    requires { (plan_length ≤ length s.now) × (n ≤ most_stations) × (p < most_stations) }
+    ensures { result ≡ planned.station_cabled s.now n p }
 {
     let m = neighbours(s, p);
     bits::mask::below(m, n) & !bits::mask::has_at(m, p) & all_both_ways(s, n, p)
 }
 
 pub fn cables_shaped(s: &[u8], n: usize) -> bool
-    requires { (planLength ≤ length s.now) × (n ≤ mostStations) }
-    ensures { result ≡ table s.now masks_at maskSize mostStations n (planned.stationCabled s.now n) }
+    requires { (plan_length ≤ length s.now) × (n ≤ most_stations) }
+    ensures { result ≡ table s.now masks_at mask_size most_stations n (planned.station_cabled s.now n) }
 {
     let mut ok = true;
     for p in 0..n {

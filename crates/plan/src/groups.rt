@@ -1,8 +1,8 @@
 // The header and the groups.
 ghost use Rattle.std.specs.Prelude.{◌≡◌, ◌≤◌, ◌<◌, length};
-ghost use Rattle.protocol.specs.Net.{mostGroups};
+ghost use Rattle.protocol.specs.Net.{most_groups};
 ghost use Rattle.layout.specs.Bounded.{table};
-ghost use Rattle.layout.specs.Layout.{planLength, groupsAt, groupSize};
+ghost use Rattle.layout.specs.Layout.{plan_length, groups_at, group_size};
 ghost use Rattle.plan.specs.Planned as planned;
 
 use bits::number::wide;
@@ -13,8 +13,8 @@ use protocol::{LONGEST_NAME, MOST_GROUPS, MOST_STATIONS};
 
 // The first eight bytes of a plan or a net of this size, with this byte 7.
 pub fn header_shaped(s: &[u8], size: u32, byte7: u8) -> bool
-    requires { planLength ≤ length s.now }
-    ensures { result ≡ planned.headerShaped s.now (planned.ofVersion1 size byte7) }
+    requires { plan_length ≤ length s.now }
+    ensures { result ≡ planned.header_shaped s.now (planned.of_version1 size byte7) }
 {
     let n = wide(stations(s));
     let g = wide(groups(s));
@@ -27,8 +27,8 @@ pub fn header_shaped(s: &[u8], size: u32, byte7: u8) -> bool
 
 // Group g: its name's length and padding, and its root.
 fn group_shaped(s: &[u8], n: usize, g: usize) -> bool
-    requires { (planLength ≤ length s.now) × (g < mostGroups) }
-    ensures { result ≡ planned.groupShaped s.now n g }
+    requires { (plan_length ≤ length s.now) × (g < most_groups) }
+    ensures { result ≡ planned.group_shaped s.now n g }
 {
     let m = wide(layout::front::name_length(s, g));
     if LONGEST_NAME < m {
@@ -39,8 +39,8 @@ fn group_shaped(s: &[u8], n: usize, g: usize) -> bool
 }
 
 pub fn groups_shaped(s: &[u8], n: usize, g: usize) -> bool
-    requires { (planLength ≤ length s.now) × (g ≤ mostGroups) }
-    ensures { result ≡ table s.now groupsAt groupSize mostGroups g (planned.groupShaped s.now n) }
+    requires { (plan_length ≤ length s.now) × (g ≤ most_groups) }
+    ensures { result ≡ table s.now groups_at group_size most_groups g (planned.group_shaped s.now n) }
 {
     let mut ok = true;
     for k in 0..g {
@@ -51,16 +51,16 @@ pub fn groups_shaped(s: &[u8], n: usize, g: usize) -> bool
 
 // Whether groups a and b have the same name.
 fn same_names(s: &[u8], a: usize, b: usize) -> bool
-    requires { (planLength ≤ length s.now) × (a < mostGroups) × (b < mostGroups) }
-    ensures { result ≡ planned.sameNames s.now a b }
+    requires { (plan_length ≤ length s.now) × (a < most_groups) × (b < most_groups) }
+    ensures { result ≡ planned.same_names s.now a b }
 {
     layout::stretch::same(s, group_at(a), group_at(b), NAME_SIZE)
 }
 
 // Whether no group before a has its name.
 fn new_name(s: &[u8], a: usize) -> bool
-    requires { (planLength ≤ length s.now) × (a < mostGroups) }
-    ensures { result ≡ planned.newName s.now a }
+    requires { (plan_length ≤ length s.now) × (a < most_groups) }
+    ensures { result ≡ planned.new_name s.now a }
 {
     let mut ok = true;
     for b in 0..a {
@@ -70,8 +70,8 @@ fn new_name(s: &[u8], a: usize) -> bool
 }
 
 pub fn names_distinct(s: &[u8], g: usize) -> bool
-    requires { (planLength ≤ length s.now) × (g ≤ mostGroups) }
-    ensures { result ≡ planned.namesDistinct s.now g }
+    requires { (plan_length ≤ length s.now) × (g ≤ most_groups) }
+    ensures { result ≡ planned.names_distinct s.now g }
 {
     let mut ok = true;
     for a in 0..g {

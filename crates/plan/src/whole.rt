@@ -1,7 +1,7 @@
 // The whole of a plan, and the part of a net that is as in a plan.
 ghost use Rattle.std.specs.Prelude.{◌≡◌, ◌≤◌, length};
-ghost use Rattle.layout.specs.Layout.{planLength};
-ghost use Rattle.plan.specs.Planned.{ofVersion1, planned, planShaped};
+ghost use Rattle.layout.specs.Layout.{plan_length};
+ghost use Rattle.plan.specs.Planned.{of_version1, planned, plan_shaped};
 
 use bits::number::wide;
 use layout::front::{groups, stations};
@@ -9,8 +9,8 @@ use layout::offset::PLAN_LENGTH;
 
 // What a plan and a net have in common.
 pub fn planned(s: &[u8], size: u32, byte7: u8) -> bool
-    requires { planLength ≤ length s.now }
-    ensures { result ≡ planned s.now (ofVersion1 size byte7) }
+    requires { plan_length ≤ length s.now }
+    ensures { result ≡ planned s.now (of_version1 size byte7) }
 {
     if crate::groups::header_shaped(s, size, byte7) {
         let n = wide(stations(s));
@@ -25,7 +25,7 @@ pub fn planned(s: &[u8], size: u32, byte7: u8) -> bool
 
 // Whether the bytes are a well-shaped plan.
 pub fn plan_shaped(s: &[u8]) -> bool
-    ensures { result ≡ planShaped s.now }
+    ensures { result ≡ plan_shaped s.now }
 {
     if s.len() != PLAN_LENGTH {
         return false;

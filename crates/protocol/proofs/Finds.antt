@@ -13,8 +13,8 @@ use lib.Dec.{eqb}
 use lib.ListN.{length}
 use borrow.Author.Tests.{eqb-true, eq-eqb, lt-ltb, le-ltb}
 use Rattle.bits.proofs.Cases.{by_bool, by-eq, by-lt, and_l, and_r, clash}
-use Rattle.protocol.specs.Net.{Net, longestName}
-use Rattle.protocol.specs.Names.{same_name, firstFrom, Found, find}
+use Rattle.protocol.specs.Net.{Net, longest_name}
+use Rattle.protocol.specs.Names.{same_name, first_from, Found, find}
 use Rattle.protocol.specs.Shaped.{Shaped}
 
 -- ---- the test compares full names
@@ -36,25 +36,25 @@ name-same l m e = rw (← e) (own_name l)
 
 -- ---- the first number that passes a test
 module _ (P : ℕ → Bool) where
-  pub first_step : (j k : ℕ) → P j ≡ false → firstFrom P j (suc k) ≡ firstFrom P (suc j) k
-  unfolding firstFrom
+  pub first_step : (j k : ℕ) → P j ≡ false → first_from P j (suc k) ≡ first_from P (suc j) k
+  unfolding first_from
   first_step j k f = rw f
 
-  pub first-here : (j k : ℕ) → P j ≡ true → firstFrom P j (suc k) ≡ j
-  unfolding firstFrom
+  pub first-here : (j k : ℕ) → P j ≡ true → first_from P j (suc k) ≡ j
+  unfolding first_from
   first-here j k t = rw t
 
-  pub first-end : (j : ℕ) → firstFrom P j 0 ≡ j
-  unfolding firstFrom
+  pub first-end : (j : ℕ) → first_from P j 0 ≡ j
+  unfolding first_from
   first-end j = refl
 
-  first_passes : (j k : ℕ) → firstFrom P j k < j + k → P (firstFrom P j k) ≡ true
+  first_passes : (j k : ℕ) → first_from P j k < j + k → P (first_from P j k) ≡ true
   first_passes j zero h = absurd (omega (arith, first-end j))
   first_passes j (suc k) h = by_bool (P j)
       (λ t. rw (first-here j k t) t)
       (λ f. rw (first_step j k f) (first_passes (suc j) k (omega (arith, first_step j k f))))
 
-  first-low : (j k i : ℕ) → j ≤ i → i < j + k → P i ≡ true → firstFrom P j k ≤ i
+  first-low : (j k i : ℕ) → j ≤ i → i < j + k → P i ≡ true → first_from P j k ≤ i
   first-low j zero i l h t = absurd (omega arith)
   first-low j (suc k) i l h t = by_bool (P j)
       (λ s. omega (arith, first-here j k s))
@@ -67,18 +67,18 @@ module _ (N : Net) (w : List ℕ) where
   named : ℕ → Bool
   named i = same_name (N.name i) w
 
-  pub find-hit : firstFrom (λ i. same_name (N.name i) w) 0 N.groups < N.groups
-      → find N w ≡ record { outcome = 0; group = firstFrom (λ i. same_name (N.name i) w) 0 N.groups }
+  pub find-hit : first_from (λ i. same_name (N.name i) w) 0 N.groups < N.groups
+      → find N w ≡ record { outcome = 0; group = first_from (λ i. same_name (N.name i) w) 0 N.groups }
   unfolding find
   find-hit h = rw (lt-ltb _ _ h)
 
-  pub find-miss : N.groups ≤ firstFrom (λ i. same_name (N.name i) w) 0 N.groups → find N w ≡ record { outcome = 7; group = 0 }
+  pub find-miss : N.groups ≤ first_from (λ i. same_name (N.name i) w) 0 N.groups → find N w ≡ record { outcome = 7; group = 0 }
   unfolding find
   find-miss h = rw (le-ltb _ _ h)
 
   pub found-full : (find N w).outcome ≡ 0 → ((find N w).group < N.groups) × (N.name (find N w).group ≡ w)
   unfolding named
-  found-full z = by-lt (firstFrom named 0 N.groups) N.groups
+  found-full z = by-lt (first_from named 0 N.groups) N.groups
       (λ h. rw (find-hit h) (h, same-name _ w (first_passes named 0 N.groups (omega arith))))
       (λ h. absurd (let e : ◌≡◌ {A = ℕ} 7 0 = ap (λ (f : Found). f.outcome) (sym (find-miss h)) ∙ z in omega arith))
 
@@ -86,12 +86,12 @@ module _ (N : Net) (w : List ℕ) where
   some-found : (g : ℕ) → g < N.groups → N.name g ≡ w → (find N w).outcome ≡ 0
   unfolding named
   some-found g h e =
-      let low : firstFrom named 0 N.groups ≤ g = first-low named 0 N.groups g (omega arith) (omega arith) (name-same _ w e) in
+      let low : first_from named 0 N.groups ≤ g = first-low named 0 N.groups g (omega arith) (omega arith) (name-same _ w e) in
       ap (λ (f : Found). f.outcome) (find-hit (omega arith))
 
   pub found_none : ((g : ℕ) → g < N.groups → N.name g ≢ w) → find N w ≡ record { outcome = 7; group = 0 }
   unfolding named
-  found_none no· = by-lt (firstFrom named 0 N.groups) N.groups
+  found_none no· = by-lt (first_from named 0 N.groups) N.groups
       (λ h. absurd (no· _ h (same-name _ w (first_passes named 0 N.groups (omega arith)))))
       find-miss
 
@@ -115,5 +115,5 @@ module _ (N : Net) (H : Shaped N) where
   pub found-short : find N [] ≡ record { outcome = 7; group = 0 }
   found-short = found_none N [] (λ g h e. let z = (H.plan.named g h).0 in let l : length (N.name g) ≡ 0 = ap (length {A = ℕ}) e in omega arith)
 
-  pub found-long : (w : List ℕ) → longestName < length w → find N w ≡ record { outcome = 7; group = 0 }
+  pub found-long : (w : List ℕ) → longest_name < length w → find N w ≡ record { outcome = 7; group = 0 }
   found-long w l = found_none N w (λ g h e. let z = (H.plan.named g h).1 in let m : length (N.name g) ≡ length w = ap (length {A = ℕ}) e in omega arith)

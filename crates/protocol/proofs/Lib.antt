@@ -1,9 +1,9 @@
-pub mod laws
-pub mod sound
-pub mod shape
-pub mod steps
+pub mod Laws
+pub mod Sound
+pub mod Shape
+pub mod Steps
 pub mod Finds
 pub mod Calls
 pub mod Theorems
 pub mod CaseCounts
-pub mod examples
+pub mod Examples

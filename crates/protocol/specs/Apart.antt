@@ -2,15 +2,15 @@
 use Rattle.std.specs.Prelude.{◌≡◌, Bool, false, cond, ◌&&◌, ◌||◌, List, [], ◌∷◌, ℕ, eqb, get_or}
 use Rattle.protocol.specs.declared.Message.{Message}
 use Rattle.protocol.specs.Net.{Net, NetOf, request}
-use Rattle.protocol.specs.Rules.{noMessage, oldest}
+use Rattle.protocol.specs.Rules.{no_message, oldest}
 
 -- the messages of group o, in their order
 unfoldable pub only : {M : Type 0} → (M → ℕ) → ℕ → List M → List M
 only group o [] = []
 only group o (m ∷ l) = cond (eqb (group m) o) (m ∷ only group o l) (only group o l)
 
-abbrev pub groupIn : Message → ℕ
-groupIn m = m.group
+abbrev pub group_in : Message → ℕ
+group_in m = m.group
 
 -- from net N to net N' no entry and no message of group o has changed, and its messages stand in the same order in every channel
 pub record Untouched {E M : Type 0} (group : M → ℕ) (o : ℕ) (N N' : NetOf E M) : Type 0 where
@@ -21,7 +21,7 @@ pub record Untouched {E M : Type 0} (group : M → ℕ) (o : ℕ) (N N' : NetOf 
 unfoldable pub group_of : Net → ℕ → ℕ → ℕ → ℕ → ℕ
 group_of N k a b c =
     cond (eqb k 4) (oldest N.channel a b).group
-    (cond (eqb k 5) (get_or (N.channel a b) c noMessage).group a)
+    (cond (eqb k 5) (get_or (N.channel a b) c no_message).group a)
 
 -- the channels that a step sends on or takes from, by its number and operands: whether the one from s to d is among them
 unfoldable pub uses : Net → ℕ → ℕ → ℕ → ℕ → ℕ → ℕ → Bool

@@ -2,10 +2,10 @@
 use Rattle.std.specs.Prelude.{Bool, cond, ◌&&◌, List, ◌++◌, ℕ, ◌-◌, eqb, length, replicate}
 use Rattle.bits.specs.Masks.{has}
 use Rattle.tree.specs.declared.Reach.{Reach}
-use Rattle.tree.specs.Tree.{Tree, onTree}
+use Rattle.tree.specs.Tree.{Tree, on_tree}
 use Rattle.tree.specs.Reach.{reach}
 use Rattle.tree.specs.Flood.{spread}
-use Rattle.protocol.specs.Net.{Net, nil, mostStations, group?, station?}
+use Rattle.protocol.specs.Net.{Net, nil, most_stations, group?, station?}
 use Rattle.protocol.specs.Steps.{or_else}
 
 -- what the stations of net N say of each other in group g
@@ -24,20 +24,20 @@ pub record Called : Type 0 where
 
 -- 3 for a group or a station out of range, 10 for a lent list that is not of the stated size, 8 for a caller with "no agreed
 -- chain to the root"
-unfoldable pub callOutcome : Net → ℕ → ℕ → Bool → ℕ
-callOutcome N g c fits = or_else (group? N g && station? N c) 3 (or_else fits 10 (or_else (onTree (tree_of N g) c) 8 0))
+unfoldable pub call_outcome : Net → ℕ → ℕ → Bool → ℕ
+call_outcome N g c fits = or_else (group? N g && station? N c) 3 (or_else fits 10 (or_else (on_tree (tree_of N g) c) 8 0))
 
 -- "The answer gives the number reached and the copies; copies is the number of passings-on". A refusal gives zeros
 unfoldable pub called : Net → ℕ → ℕ → Bool → Called
 called N g c fits =
-    let o = callOutcome N g c fits in
+    let o = call_outcome N g c fits in
     cond (eqb o 0) (record { outcome = 0; reached = length (reach (tree_of N g)); copies = length (spread (tree_of N g) c) })
     (record { outcome = o; reached = 0; copies = 0 })
 
 -- "Later entries hold 255 three times"
-abbrev pub noReach : Reach
-noReach = record { station = nil; parent = nil; depth = nil }
+abbrev pub no_reach : Reach
+no_reach = record { station = nil; parent = nil; depth = nil }
 
 -- the reach list: "exactly 16 entries"
-unfoldable pub reachList : Net → ℕ → List Reach
-reachList N g = let l = reach (tree_of N g) in l ++ replicate (mostStations - length l) noReach
+unfoldable pub reach_list : Net → ℕ → List Reach
+reach_list N g = let l = reach (tree_of N g) in l ++ replicate (most_stations - length l) no_reach

@@ -7,33 +7,33 @@ use Rattle.protocol.specs.declared.Entry.{Entry}
 use Rattle.protocol.specs.declared.Message.{Message}
 
 -- its number; and 0 is "no reply was heard"
-unfoldable pub caseNumber : Case → ℕ
-caseNumber Adopted = 1
-caseNumber NotTentative = 2
-caseNumber Unconnected = 3
-caseNumber NotGreater = 4
+unfoldable pub case_number : Case → ℕ
+case_number Adopted = 1
+case_number NotTentative = 2
+case_number Unconnected = 3
+case_number NotGreater = 4
 
 abbrev pub no_case : ℕ
 no_case = 0
 
 -- what it says of the reply m from s, to a station that has the entry e. A reply is taken "if the sender is its tentative parent, the
 -- flag is 1 and the clock is strictly greater than its own"
-unfoldable pub caseSays : Case → Entry → ℕ → Message → Bool
-caseSays Adopted e s m = eqb e.tentative s && eqb m.connected 1 && ltb e.clock m.clock
-caseSays NotTentative e s m = not (eqb e.tentative s)
-caseSays Unconnected e s m = not (eqb m.connected 1)
-caseSays NotGreater e s m = not (ltb e.clock m.clock)
+unfoldable pub case_says : Case → Entry → ℕ → Message → Bool
+case_says Adopted e s m = eqb e.tentative s && eqb m.connected 1 && ltb e.clock m.clock
+case_says NotTentative e s m = not (eqb e.tentative s)
+case_says Unconnected e s m = not (eqb m.connected 1)
+case_says NotGreater e s m = not (ltb e.clock m.clock)
 
 -- "tested in that order": the first that says what is so. Where the first three do not, the fourth does (`told-says`)
 unfoldable pub case_of : Entry → ℕ → Message → Case
 case_of e s m =
-    cond (caseSays Adopted e s m) Adopted
-    (cond (caseSays NotTentative e s m) NotTentative
-    (cond (caseSays Unconnected e s m) Unconnected NotGreater))
+    cond (case_says Adopted e s m) Adopted
+    (cond (case_says NotTentative e s m) NotTentative
+    (cond (case_says Unconnected e s m) Unconnected NotGreater))
 
 -- the reply is taken: the case is adopted
 unfoldable pub adopts : Entry → ℕ → Message → Bool
-adopts e s m = eqb (caseNumber (case_of e s m)) (caseNumber Adopted)
+adopts e s m = eqb (case_number (case_of e s m)) (case_number Adopted)
 
 -- ---- each case by itself, without the order
 unfoldable pub CaseHolds : Case → Entry → ℕ → Message → Type 0

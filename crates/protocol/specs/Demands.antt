@@ -15,8 +15,8 @@ pub record Reaches (N : Net) (g p : ℕ) : Type 0 where
 pub record Demand3 (N : Net) : Type 0 where
   pub reaches : (g p : ℕ) → g < N.groups → (N.entry g p).parent ≢ nil → Reaches N g p
   -- no channel holds more than one request and one reply of a group
-  pub oneRequest : (g s d : ℕ) → g < N.groups → count_of request g (N.channel s d) ≤ 1
-  pub oneReply : (g s d : ℕ) → g < N.groups → count_of reply g (N.channel s d) ≤ 1
+  pub one_request : (g s d : ℕ) → g < N.groups → count_of request g (N.channel s d) ≤ 1
+  pub one_reply : (g s d : ℕ) → g < N.groups → count_of reply g (N.channel s d) ≤ 1
 
 -- a station with a parent keeps one while it is a member or has a child: from net N to net M
 abbrev pub KeepsParents : Net → Net → Type 0

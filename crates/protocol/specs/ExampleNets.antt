@@ -3,7 +3,7 @@ use Rattle.std.specs.Prelude.{Bool, true, cond, not, ◌&&◌, ◌||◌, List, [
 use Rattle.bits.specs.Masks.{has, with, below, within}
 use Rattle.protocol.specs.declared.Entry.{Entry}
 use Rattle.protocol.specs.declared.Message.{Message}
-use Rattle.protocol.specs.Net.{Net, nil, mostStations, mostGroups, longestName, largestClock, capacity, request, reply, setEntry, send}
+use Rattle.protocol.specs.Net.{Net, nil, most_stations, most_groups, longest_name, largest_clock, capacity, request, reply, set_entry, send}
 use Rattle.protocol.specs.Fresh.{Plan, fresh}
 use Rattle.protocol.specs.Runs.{run}
 use Rattle.protocol.specs.Names.{same_name}
@@ -13,9 +13,9 @@ abbrev pub Step : Type 0
 Step = ℕ × ℕ × ℕ × ℕ
 
 -- "A script is 4 bytes a step"
-unfoldable pub scriptOf : List Step → List ℕ
-scriptOf [] = []
-scriptOf (t ∷ ts) = t.0 ∷ t.1 ∷ t.2 ∷ t.3 ∷ scriptOf ts
+unfoldable pub script_of : List Step → List ℕ
+script_of [] = []
+script_of (t ∷ ts) = t.0 ∷ t.1 ∷ t.2 ∷ t.3 ∷ script_of ts
 
 -- the two ends of a cable
 abbrev pub Cable : Type 0
@@ -46,28 +46,28 @@ S by t = S having (t ∷ [])
 
 -- ---- the net
 -- the neighbours of station p, as a mask
-unfoldable pub neighboursBy : List Cable → ℕ → ℕ
-neighboursBy [] p = 0
-neighboursBy (c ∷ cs) p = let m = neighboursBy cs p in cond (eqb p c.0) (with m c.1) (cond (eqb p c.1) (with m c.0) m)
+unfoldable pub neighbours_by : List Cable → ℕ → ℕ
+neighbours_by [] p = 0
+neighbours_by (c ∷ cs) p = let m = neighbours_by cs p in cond (eqb p c.0) (with m c.1) (cond (eqb p c.1) (with m c.0) m)
 
 -- what stands where there is no group
-abbrev pub noGroup : Group
-noGroup = record { name = []; root = 0 }
+abbrev pub no_group : Group
+no_group = record { name = []; root = 0 }
 
-unfoldable pub planBy : List Group → ℕ → List Cable → Plan
-planBy gs n cs = record {
+unfoldable pub plan_by : List Group → ℕ → List Cable → Plan
+plan_by gs n cs = record {
   stations = n;
   groups = length gs;
-  name = λ g. (get_or gs g noGroup).name;
-  root = λ g. (get_or gs g noGroup).root;
-  neighbours = neighboursBy cs;
+  name = λ g. (get_or gs g no_group).name;
+  root = λ g. (get_or gs g no_group).root;
+  neighbours = neighbours_by cs;
 }
 
 unfoldable pub net : Start → Net
-net (new gs n cs) = fresh (planBy gs n cs)
-net (S knowing k) = setEntry (net S) k.0 k.1 k.2
+net (new gs n cs) = fresh (plan_by gs n cs)
+net (S knowing k) = set_entry (net S) k.0 k.1 k.2
 net (S carrying c) = send (net S) c.0 c.1 c.2
-net (S having ts) = (run (net S) (scriptOf ts)).net
+net (S having ts) = (run (net S) (script_of ts)).net
 
 -- ---- the test
 unfoldable pub every : {A : Type 0} → (A → Bool) → List A → Bool
@@ -75,9 +75,9 @@ every P [] = true
 every P (x ∷ l) = P x && every P l
 
 -- "name length 1 to 16, .. (any byte values); each root below n"
-unfoldable pub groupFits : ℕ → Group → Bool
-groupFits n G =
-    leb 1 (length G.name) && leb (length G.name) longestName && every (λ b. ltb b 256) G.name && ltb G.root n
+unfoldable pub group_fits : ℕ → Group → Bool
+group_fits n G =
+    leb 1 (length G.name) && leb (length G.name) longest_name && every (λ b. ltb b 256) G.name && ltb G.root n
 
 -- "names distinct"
 unfoldable pub differ : List Group → Bool
@@ -85,36 +85,36 @@ differ [] = true
 differ (G ∷ gs) = every (λ H. not (same_name H.name G.name)) gs && differ gs
 
 -- "masks name stations below n; .. no station neighbours itself"
-unfoldable pub cableFits : ℕ → Cable → Bool
-cableFits n c = ltb c.0 n && ltb c.1 n && not (eqb c.0 c.1)
+unfoldable pub cable_fits : ℕ → Cable → Bool
+cable_fits n c = ltb c.0 n && ltb c.1 n && not (eqb c.0 c.1)
 
-unfoldable pub planFits : List Group → ℕ → List Cable → Bool
-planFits gs n cs =
-    leb 1 n && leb n mostStations && leb 1 (length gs) && leb (length gs) mostGroups
-    && every (groupFits n) gs && differ gs && every (cableFits n) cs
+unfoldable pub plan_fits : List Group → ℕ → List Cable → Bool
+plan_fits gs n cs =
+    leb 1 n && leb n most_stations && leb 1 (length gs) && leb (length gs) most_groups
+    && every (group_fits n) gs && differ gs && every (cable_fits n) cs
 
 -- "parent and tentative parent are nil or neighbours, both nil at the root; member is 0 or 1; children and waiting lie within
 -- the neighbours": the entry of station p, whose neighbours are nb, in a group with root r
-unfoldable pub entryFits : ℕ → ℕ → ℕ → Entry → Bool
-entryFits nb r p e =
+unfoldable pub entry_fits : ℕ → ℕ → ℕ → Entry → Bool
+entry_fits nb r p e =
     (eqb e.parent nil || has nb e.parent) && (eqb e.tentative nil || has nb e.tentative)
     && (not (eqb p r) || (eqb e.parent nil && eqb e.tentative nil)) && leb e.member 1
-    && below mostStations e.children && within mostStations e.children nb
-    && below mostStations e.waiting && within mostStations e.waiting nb && leb e.clock largestClock
+    && below most_stations e.children && within most_stations e.children nb
+    && below most_stations e.waiting && within most_stations e.waiting nb && leb e.clock largest_clock
 
 -- "kind is 1 (request) or 2 (reply), group below g, connected 0 or 1, and both connected and clock zero in a request"
-unfoldable pub messageFits : ℕ → Message → Bool
-messageFits n m =
+unfoldable pub message_fits : ℕ → Message → Bool
+message_fits n m =
     (eqb m.kind request || eqb m.kind reply) && ltb m.group n && leb m.connected 1
-    && (not (eqb m.kind request) || (eqb m.connected 0 && eqb m.clock 0)) && leb m.clock largestClock
+    && (not (eqb m.kind request) || (eqb m.connected 0 && eqb m.clock 0)) && leb m.clock largest_clock
 
 -- the net is well shaped, and every step that it has taken was accepted
 unfoldable pub proper : Start → Bool
-proper (new gs n cs) = planFits gs n cs
+proper (new gs n cs) = plan_fits gs n cs
 proper (S knowing k) =
     proper S && ltb k.0 (net S).groups && ltb k.1 (net S).stations
-    && entryFits ((net S).neighbours k.1) ((net S).root k.0) k.1 k.2
+    && entry_fits ((net S).neighbours k.1) ((net S).root k.0) k.1 k.2
 proper (S carrying c) =
     proper S && has ((net S).neighbours c.0) c.1 && ltb (length ((net S).channel c.0 c.1)) capacity
-    && messageFits (net S).groups c.2
-proper (S having ts) = proper S && eqb (run (net S) (scriptOf ts)).tally.accepted (length ts)
+    && message_fits (net S).groups c.2
+proper (S having ts) = proper S && eqb (run (net S) (script_of ts)).tally.accepted (length ts)

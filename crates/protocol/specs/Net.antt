@@ -1,7 +1,7 @@
 -- The net: stations joined by cables, groups, routes, what each station knows of each group, and the channels.
 use Rattle.std.specs.Prelude.{Bool, cond, ◌&&◌, List, [], ◌∷◌, ◌++◌, ℕ, zero, suc, eqb, ltb, length}
 use Rattle.bits.specs.Masks.{has}
-use Rattle.bits.specs.Sums.{sumBelow}
+use Rattle.bits.specs.Sums.{sum_below}
 use Rattle.tree.specs.Tree as tree
 use Rattle.protocol.specs.declared.Entry.{Entry}
 use Rattle.protocol.specs.declared.Message.{Message}
@@ -11,21 +11,21 @@ use Rattle.protocol.specs.declared.Message.{Message}
 abbrev pub nil : ℕ
 nil = tree.nil
 
-abbrev pub mostStations : ℕ
-mostStations = 16
+abbrev pub most_stations : ℕ
+most_stations = 16
 
-abbrev pub mostGroups : ℕ
-mostGroups = 4
+abbrev pub most_groups : ℕ
+most_groups = 4
 
-abbrev pub longestName : ℕ
-longestName = 16
+abbrev pub longest_name : ℕ
+longest_name = 16
 
-abbrev pub largestClock : ℕ
-largestClock = 4294967295
+abbrev pub largest_clock : ℕ
+largest_clock = 4294967295
 
 -- a script's bytes
-abbrev pub longestScript : ℕ
-longestScript = 16384
+abbrev pub longest_script : ℕ
+longest_script = 16384
 
 -- how many messages a channel of version 1 holds at most
 abbrev pub capacity : ℕ
@@ -61,15 +61,15 @@ unfoldable pub upd2 : {A : Type 0} → (ℕ → ℕ → A) → ℕ → ℕ → A
 upd2 f i j v = upd f i (upd (f i) j v)
 
 -- a list without its i-th element: the later ones move up
-unfoldable pub removeAt : {A : Type 0} → ℕ → List A → List A
-removeAt i [] = []
-removeAt zero (x ∷ l) = l
-removeAt (suc i) (x ∷ l) = x ∷ removeAt i l
+unfoldable pub remove_at : {A : Type 0} → ℕ → List A → List A
+remove_at i [] = []
+remove_at zero (x ∷ l) = l
+remove_at (suc i) (x ∷ l) = x ∷ remove_at i l
 
 module _ {E M : Type 0} (N : NetOf E M) where
   -- another entry of group g at station p
-  unfoldable pub setEntry : ℕ → ℕ → E → NetOf E M
-  setEntry g p e = record {
+  unfoldable pub set_entry : ℕ → ℕ → E → NetOf E M
+  set_entry g p e = record {
     stations = N.stations;
     groups = N.groups;
     name = N.name;
@@ -81,8 +81,8 @@ module _ {E M : Type 0} (N : NetOf E M) where
   }
 
   -- other messages from s to d
-  unfoldable pub setChannel : ℕ → ℕ → List M → NetOf E M
-  setChannel s d l = record {
+  unfoldable pub set_channel : ℕ → ℕ → List M → NetOf E M
+  set_channel s d l = record {
     stations = N.stations;
     groups = N.groups;
     name = N.name;
@@ -94,8 +94,8 @@ module _ {E M : Type 0} (N : NetOf E M) where
   }
 
   -- another route from p towards d
-  unfoldable pub setRoute : ℕ → ℕ → ℕ → NetOf E M
-  setRoute p d q = record {
+  unfoldable pub set_route : ℕ → ℕ → ℕ → NetOf E M
+  set_route p d q = record {
     stations = N.stations;
     groups = N.groups;
     name = N.name;
@@ -108,11 +108,11 @@ module _ {E M : Type 0} (N : NetOf E M) where
 
   -- a message goes out from s to d: it comes last. "Channels are first in, first out"
   unfoldable pub send : ℕ → ℕ → M → NetOf E M
-  send s d m = setChannel s d (N.channel s d ++ (m ∷ []))
+  send s d m = set_channel s d (N.channel s d ++ (m ∷ []))
 
   -- the message at position i from s to d is taken out: "later ones, other groups' too, move up in their order"
-  unfoldable pub takeAt : ℕ → ℕ → ℕ → NetOf E M
-  takeAt s d i = setChannel s d (removeAt i (N.channel s d))
+  unfoldable pub take_at : ℕ → ℕ → ℕ → NetOf E M
+  take_at s d i = set_channel s d (remove_at i (N.channel s d))
 
   -- ---- what an operand may be
   unfoldable pub group? : ℕ → Bool
@@ -126,9 +126,9 @@ module _ {E M : Type 0} (N : NetOf E M) where
   near? p q = station? p && station? q && has (N.neighbours p) q
 
   -- room for one message more from s to d, in channels of this capacity
-  abbrev pub roomIn : (capacity s d : ℕ) → Bool
-  roomIn capacity s d = ltb (length (N.channel s d)) capacity
+  abbrev pub room_in : (capacity s d : ℕ) → Bool
+  room_in capacity s d = ltb (length (N.channel s d)) capacity
 
   -- how many messages are in the channels, all together
-  unfoldable pub inChannels : ℕ
-  inChannels = sumBelow N.stations (λ s. sumBelow N.stations (λ d. length (N.channel s d)))
+  unfoldable pub in_channels : ℕ
+  in_channels = sum_below N.stations (λ s. sum_below N.stations (λ d. length (N.channel s d)))

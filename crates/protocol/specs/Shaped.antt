@@ -3,7 +3,7 @@ use Rattle.std.specs.Prelude.{◌≡◌, ◌≢◌, ◌⊎◌, true, List, [], �
 use Rattle.bits.specs.Masks.{has}
 use Rattle.protocol.specs.declared.Entry.{Entry}
 use Rattle.protocol.specs.declared.Message.{Message}
-use Rattle.protocol.specs.Net.{NetOf, Net, nil, mostStations, mostGroups, longestName, largestClock, capacity, request, reply}
+use Rattle.protocol.specs.Net.{NetOf, Net, nil, most_stations, most_groups, longest_name, largest_clock, capacity, request, reply}
 use Rattle.protocol.specs.Fresh.{Plan, blank, plan_of}
 
 -- a statement at each element of a list
@@ -13,33 +13,33 @@ pub data All {A : Type 0} (P : A → Type 0) : List A → Type 0 where
 
 pub record ShapedPlan (P : Plan) : Type 0 where
   -- "n and g in range"
-  pub stationsLeast : 1 ≤ P.stations
-  pub stationsMost : P.stations ≤ mostStations
-  pub groupsLeast : 1 ≤ P.groups
-  pub groupsMost : P.groups ≤ mostGroups
+  pub stations_least : 1 ≤ P.stations
+  pub stations_most : P.stations ≤ most_stations
+  pub groups_least : 1 ≤ P.groups
+  pub groups_most : P.groups ≤ most_groups
   -- "name length 1 to 16, .. names distinct (any byte values); each root below n"
-  pub named : (g : ℕ) → g < P.groups → (1 ≤ length (P.name g)) × (length (P.name g) ≤ longestName)
-  pub nameIsBytes : (g i : ℕ) → get_or (P.name g) i 0 < 256
+  pub named : (g : ℕ) → g < P.groups → (1 ≤ length (P.name g)) × (length (P.name g) ≤ longest_name)
+  pub name_is_bytes : (g i : ℕ) → get_or (P.name g) i 0 < 256
   pub distinct : (g h : ℕ) → g < P.groups → h < g → P.name g ≢ P.name h
   pub roots : (g : ℕ) → g < P.groups → P.root g < P.stations
   -- "masks name stations below n; the neighbour relation is symmetric and no station neighbours itself"
   pub cables : (p q : ℕ) → has (P.neighbours p) q ≡ true → (p < P.stations) × (q < P.stations) × (p ≢ q) × (has (P.neighbours q) p ≡ true)
   -- what is unused
-  pub noName : (g : ℕ) → P.groups ≤ g → P.name g ≡ []
-  pub noRoot : (g : ℕ) → P.groups ≤ g → P.root g ≡ 0
+  pub no_name : (g : ℕ) → P.groups ≤ g → P.name g ≡ []
+  pub no_root : (g : ℕ) → P.groups ≤ g → P.root g ≡ 0
 
 -- the entry of station p, whose neighbours are nb, in a group with root r
 pub record ShapedEntry (nb r p : ℕ) (e : Entry) : Type 0 where
   -- "parent and tentative parent are nil or neighbours, both nil at the root"
-  pub parentNear : e.parent ≢ nil → has nb e.parent ≡ true
-  pub tentativeNear : e.tentative ≢ nil → has nb e.tentative ≡ true
-  pub nilAtRoot : p ≡ r → (e.parent ≡ nil) × (e.tentative ≡ nil)
+  pub parent_near : e.parent ≢ nil → has nb e.parent ≡ true
+  pub tentative_near : e.tentative ≢ nil → has nb e.tentative ≡ true
+  pub nil_at_root : p ≡ r → (e.parent ≡ nil) × (e.tentative ≡ nil)
   -- "member is 0 or 1; children and waiting lie within the neighbours"
   pub flag : e.member ≤ 1
-  pub childrenNear : (x : ℕ) → has e.children x ≡ true → has nb x ≡ true
-  pub waitingNear : (x : ℕ) → has e.waiting x ≡ true → has nb x ≡ true
+  pub children_near : (x : ℕ) → has e.children x ≡ true → has nb x ≡ true
+  pub waiting_near : (x : ℕ) → has e.waiting x ≡ true → has nb x ≡ true
   -- a clock is a number of 4 bytes
-  pub clockFits : e.clock ≤ largestClock
+  pub clock_fits : e.clock ≤ largest_clock
 
 -- a message in a net of g groups
 pub record ShapedMessage (g : ℕ) (m : Message) : Type 0 where
@@ -48,7 +48,7 @@ pub record ShapedMessage (g : ℕ) (m : Message) : Type 0 where
   pub grouped : m.group < g
   pub flag : m.connected ≤ 1
   pub bare : m.kind ≡ request → (m.connected ≡ 0) × (m.clock ≡ 0)
-  pub clockFits : m.clock ≤ largestClock
+  pub clock_fits : m.clock ≤ largest_clock
 
 -- ---- nets of any version
 -- what a version fixes: how many messages a channel holds at most, the entry of a station that has heard nothing, and what a well-shaped
@@ -74,8 +74,8 @@ pub record ShapedOf {E M : Type 0} (v : Version E M) (N : NetOf E M) : Type 0 wh
   pub entries : (g p : ℕ) → v.EntryShaped N.stations (N.neighbours p) (N.root g) p (N.entry g p)
   pub channels : (s d : ℕ) → ShapedChannelOf v N.stations N.groups (N.neighbours s) d (N.channel s d)
   -- "every byte of an unused group, station .. is zero": it shows nothing
-  pub noStation : (g p : ℕ) → N.stations ≤ p → N.entry g p ≡ v.blank
-  pub noGroup : (g p : ℕ) → N.groups ≤ g → N.entry g p ≡ v.blank
+  pub no_station : (g p : ℕ) → N.stations ≤ p → N.entry g p ≡ v.blank
+  pub no_group : (g p : ℕ) → N.groups ≤ g → N.entry g p ≡ v.blank
 
 -- ---- version 1
 abbrev pub version1 : Version Entry Message

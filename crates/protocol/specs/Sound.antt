@@ -4,7 +4,7 @@ use Rattle.bits.specs.Masks.{has}
 use Rattle.tree.specs.Tree.{OnTree}
 use Rattle.protocol.specs.declared.Entry.{Entry}
 use Rattle.protocol.specs.Net.{Net, nil, reply}
-use Rattle.protocol.specs.Entries.{joins, connected, underWay}
+use Rattle.protocol.specs.Entries.{joins, connected, under_way}
 use Rattle.protocol.specs.Calls.{tree_of}
 use Rattle.protocol.specs.Shaped.{All, Shaped}
 
@@ -17,12 +17,12 @@ pub record Vouches (r q : ℕ) (e : Entry) (p k : ℕ) : Type 0 where
 
 pub record Sound (N : Net) (g : ℕ) : Type 0 where
   -- "a station waits on a neighbour wherever a request or its reply is in the channels,
-  pub waits : (p q : ℕ) → 0 < underWay N.channel g p q → has (N.entry g p).waiting q ≡ true
+  pub waits : (p q : ℕ) → 0 < under_way N.channel g p q → has (N.entry g p).waiting q ≡ true
   -- and there is at most one message of the two kinds together;
-  pub single : (p q : ℕ) → underWay N.channel g p q ≤ 1
+  pub single : (p q : ℕ) → under_way N.channel g p q ≤ 1
   -- a station with a parent or tentative parent joins;
-  pub parentJoins : (p : ℕ) → (N.entry g p).parent ≢ nil → joins (N.entry g p) ≡ true
-  pub tentativeJoins : (p : ℕ) → (N.entry g p).tentative ≢ nil → joins (N.entry g p) ≡ true
+  pub parent_joins : (p : ℕ) → (N.entry g p).parent ≢ nil → joins (N.entry g p) ≡ true
+  pub tentative_joins : (p : ℕ) → (N.entry g p).tentative ≢ nil → joins (N.entry g p) ≡ true
   -- every parent chain is agreed, reaches the root,
   pub chains : (p : ℕ) → (N.entry g p).parent ≢ nil → OnTree (tree_of N g) p
   -- and clocks never fall along it;

@@ -1,5 +1,7 @@
 // The numbers of document 01 that the code names, as in specs/Net.antt; and the records that the rules speak of: what a station knows
 // of one group, a message, what a reply comes to, and the counts of a run.
+#![tactic(auto)]
+
 pub const NIL: u8 = 255;
 
 pub const MOST_STATIONS: usize = 16;

@@ -5,13 +5,13 @@ use Rattle.protocol.specs.Calls.{Called}
 use Rattle.step.specs.declared.Answer.{Answer}
 
 -- the outcome, and the number of the case of a reply in the next byte
-unfoldable pub stepWord : Answer → ℕ
-stepWord s = s.outcome + 256 * s.case
+unfoldable pub step_word : Answer → ℕ
+step_word s = s.outcome + 256 * s.case
 
 -- the outcome, and the group in the next byte
-unfoldable pub foundWord : Found → ℕ
-foundWord f = f.outcome + 256 * f.group
+unfoldable pub found_word : Found → ℕ
+found_word f = f.outcome + 256 * f.group
 
 -- the outcome, the number reached in the next byte, the copies in the one after it
-unfoldable pub calledWord : Called → ℕ
-calledWord c = c.outcome + 256 * c.reached + 65536 * c.copies
+unfoldable pub called_word : Called → ℕ
+called_word c = c.outcome + 256 * c.reached + 65536 * c.copies

@@ -1,53 +1,55 @@
 // The C face: every function of the model but the bench program, through numbers and byte buffers (rig/kepalumbi.h).
+#![tactic(auto)]
+
 ghost use Rattle.std.specs.Prelude.{◌≡◌};
-ghost use Rattle.visit.specs.Lists.{listFits};
-ghost use Rattle.fresh.specs.Fresh.{freshOutcome, netAfterFresh};
+ghost use Rattle.visit.specs.Lists.{list_fits};
+ghost use Rattle.fresh.specs.Fresh.{fresh_outcome, net_after_fresh};
 ghost use Rattle.layout.specs.declared.form.Mark.TheVariants.{Saved, Working};
-ghost use Rattle.step.specs.Steps.{stepAnswer, netAfterStep, stepAnswerAs, netAfterStepAs};
-ghost use Rattle.run.specs.Tallies.{tallyFits};
-ghost use Rattle.run.specs.Runs.{runOutcome, netAfterRun, tallyAfterRun, runOutcomeAs, netAfterRunAs, tallyAfterRunAs};
-ghost use Rattle.convert.specs.Converts.{convertOutcome, afterConvert};
-ghost use Rattle.find.specs.Answers.{foundIn};
-ghost use Rattle.call.specs.Answers.{calledIn, listAfterCall};
-ghost use Rattle.rig.specs.Face.{stepWord, foundWord, calledWord};
+ghost use Rattle.step.specs.Steps.{step_answer, net_after_step, step_answer_as, net_after_step_as};
+ghost use Rattle.run.specs.Tallies.{tally_fits};
+ghost use Rattle.run.specs.Runs.{run_outcome, net_after_run, tally_after_run, run_outcome_as, net_after_run_as, tally_after_run_as};
+ghost use Rattle.convert.specs.Converts.{convert_outcome, after_convert};
+ghost use Rattle.find.specs.Answers.{found_in};
+ghost use Rattle.call.specs.Answers.{called_in, list_after_call};
+ghost use Rattle.rig.specs.Face.{step_word, found_word, called_word};
 
 use layout::form::Mark;
 
 #[unsafe(no_mangle)]
 pub extern "C" fn kep_fresh(plan: &[u8], net: &mut [u8]) -> u32
-    ensures { (result ≡ freshOutcome plan.now net.old)
-        × (net.new ≡ netAfterFresh plan.now net.old) }
+    ensures { (result ≡ fresh_outcome plan.now net.old)
+        × (net.new ≡ net_after_fresh plan.now net.old) }
 {
     fresh::fresh(plan, net) as u32
 }
 
 // A step's answer as one number.
 fn step_word(answer: step::Answer) -> u32
-    ensures { result ≡ stepWord answer }
+    ensures { result ≡ step_word answer }
 {
     (answer.outcome as u32) + 256 * (answer.case as u32)
 }
 
 #[unsafe(no_mangle)]
 pub extern "C" fn kep_step(net: &mut [u8], action: u8, a: u8, b: u8, c: u8) -> u32
-    ensures { (result ≡ stepWord (stepAnswer net.old action a b c))
-        × (net.new ≡ netAfterStep net.old action a b c) }
+    ensures { (result ≡ step_word (step_answer net.old action a b c))
+        × (net.new ≡ net_after_step net.old action a b c) }
 {
     step_word(step::step(net, action, a, b, c))
 }
 
 #[unsafe(no_mangle)]
 pub extern "C" fn kep_run(net: &mut [u8], script: &[u8], tally: &mut [u8]) -> u32
-    ensures { (result ≡ runOutcome net.old script.now (tallyFits tally.old))
-        × (net.new ≡ netAfterRun net.old script.now (tallyFits tally.old))
-        × (tally.new ≡ tallyAfterRun net.old script.now tally.old) }
+    ensures { (result ≡ run_outcome net.old script.now (tally_fits tally.old))
+        × (net.new ≡ net_after_run net.old script.now (tally_fits tally.old))
+        × (tally.new ≡ tally_after_run net.old script.now tally.old) }
 {
     run::run_into(net, script, tally) as u32
 }
 
 #[unsafe(no_mangle)]
 pub extern "C" fn kep_find(net: &[u8], name: &[u8]) -> u32
-    ensures { result ≡ foundWord (foundIn net.now name.now) }
+    ensures { result ≡ found_word (found_in net.now name.now) }
 {
     let found = find::find(net, name);
     match found {
@@ -58,8 +60,8 @@ pub extern "C" fn kep_find(net: &[u8], name: &[u8]) -> u32
 
 #[unsafe(no_mangle)]
 pub extern "C" fn kep_call(net: &[u8], group: u8, station: u8, list: &mut [u8]) -> u32
-    ensures { (result ≡ calledWord (calledIn net.now group station (listFits list.old)))
-        × (list.new ≡ listAfterCall net.now group station list.old) }
+    ensures { (result ≡ called_word (called_in net.now group station (list_fits list.old)))
+        × (list.new ≡ list_after_call net.now group station list.old) }
 {
     let called = call::call(net, group, station, list);
     match called {
@@ -72,33 +74,33 @@ pub extern "C" fn kep_call(net: &[u8], group: u8, station: u8, list: &mut [u8]) 
 
 #[unsafe(no_mangle)]
 pub extern "C" fn kep_to_working(net: &[u8], work: &mut [u8]) -> u32
-    ensures { (result ≡ convertOutcome Saved net.now work.old)
-        × (work.new ≡ afterConvert Saved Working net.now work.old) }
+    ensures { (result ≡ convert_outcome Saved net.now work.old)
+        × (work.new ≡ after_convert Saved Working net.now work.old) }
 {
     convert::to_working(net, work) as u32
 }
 
 #[unsafe(no_mangle)]
 pub extern "C" fn kep_to_saved(work: &[u8], net: &mut [u8]) -> u32
-    ensures { (result ≡ convertOutcome Working work.now net.old)
-        × (net.new ≡ afterConvert Working Saved work.now net.old) }
+    ensures { (result ≡ convert_outcome Working work.now net.old)
+        × (net.new ≡ after_convert Working Saved work.now net.old) }
 {
     convert::to_saved(work, net) as u32
 }
 
 #[unsafe(no_mangle)]
 pub extern "C" fn kep_working_step(work: &mut [u8], action: u8, a: u8, b: u8, c: u8) -> u32
-    ensures { (result ≡ stepWord (stepAnswerAs Working work.old action a b c))
-        × (work.new ≡ netAfterStepAs Working work.old action a b c) }
+    ensures { (result ≡ step_word (step_answer_as Working work.old action a b c))
+        × (work.new ≡ net_after_step_as Working work.old action a b c) }
 {
     step_word(step::step_as(work, Mark::Working, action, a, b, c))
 }
 
 #[unsafe(no_mangle)]
 pub extern "C" fn kep_working_run(work: &mut [u8], script: &[u8], tally: &mut [u8]) -> u32
-    ensures { (result ≡ runOutcomeAs Working work.old script.now (tallyFits tally.old))
-        × (work.new ≡ netAfterRunAs Working work.old script.now (tallyFits tally.old))
-        × (tally.new ≡ tallyAfterRunAs Working work.old script.now tally.old) }
+    ensures { (result ≡ run_outcome_as Working work.old script.now (tally_fits tally.old))
+        × (work.new ≡ net_after_run_as Working work.old script.now (tally_fits tally.old))
+        × (tally.new ≡ tally_after_run_as Working work.old script.now tally.old) }
 {
     run::run_into_as(work, Mark::Working, script, tally) as u32
 }

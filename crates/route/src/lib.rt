@@ -1,8 +1,10 @@
 // 9. Route: the next station from p towards d is q.
+#![tactic(auto)]
+
 ghost use Rattle.protocol.specs.Rules as rule;
 ghost use Rattle.net.specs.View.{view};
-ghost use Rattle.access.specs.inner.Nets.{IsNet};
-ghost use Rattle.action.specs.inner.Ends.{ActionEnd};
+ghost use Rattle.access.specs.Inner.Nets.{IsNet};
+ghost use Rattle.action.specs.Inner.Ends.{ActionEnd};
 
 use action::Answer;
 use action::operands::of_route;

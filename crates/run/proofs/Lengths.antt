@@ -5,12 +5,12 @@ use native.Mathlib.Omega.{arith}
 use lib.Dec.{eqb, leb}
 use borrow.Author.Tests.{leb-true}
 use Rattle.protocol.specs.Steps.{or_else}
-use Rattle.protocol.specs.Net.{longestScript}
-use Rattle.protocol.specs.Runs.{lengthOutcome}
-use Rattle.protocol.proofs.steps.Steps.{orElse-pass}
+use Rattle.protocol.specs.Net.{longest_script}
+use Rattle.protocol.specs.Runs.{length_outcome}
+use Rattle.protocol.proofs.Steps.Steps.{or_else-pass}
 
-pub length-fits : (n : ℕ) → lengthOutcome n ≡ 0 → n ≤ longestScript
-unfolding lengthOutcome
+pub length-fits : (n : ℕ) → length_outcome n ≡ 0 → n ≤ longest_script
+unfolding length_outcome
 length-fits n e =
-    let w = (orElse-pass (eqb (n % 4) 0) 11 (or_else (leb n longestScript) 12 0) 0 (λ i. omega arith) e).1 in
-    leb-true n longestScript (orElse-pass (leb n longestScript) 12 0 0 (λ i. omega arith) w).0
+    let w = (or_else-pass (eqb (n % 4) 0) 11 (or_else (leb n longest_script) 12 0) 0 (λ i. omega arith) e).1 in
+    leb-true n longest_script (or_else-pass (leb n longest_script) 12 0 0 (λ i. omega arith) w).0

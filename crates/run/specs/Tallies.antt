@@ -6,18 +6,18 @@ use Rattle.protocol.specs.declared.Replies.{Replies}
 use Rattle.protocol.specs.declared.Tally.{Tally}
 use Rattle.protocol.specs.Runs.{case_count}
 
-abbrev pub tallyLength : ℕ
-tallyLength = 36
+abbrev pub tally_length : ℕ
+tally_length = 36
 
-abbrev pub tallyFits : List ℕ → Bool
-tallyFits t = eqb (length t) tallyLength
+abbrev pub tally_fits : List ℕ → Bool
+tally_fits t = eqb (length t) tally_length
 
 -- the replies' counts, in the order of the cases
-unfoldable pub repliesBytes : Replies → List ℕ
-repliesBytes r =
+unfoldable pub replies_bytes : Replies → List ℕ
+replies_bytes r =
     bytes 4 (case_count r Adopted) ++ bytes 4 (case_count r NotTentative) ++ bytes 4 (case_count r Unconnected) ++ bytes 4 (case_count r NotGreater)
 
-unfoldable pub tallyBytes : Tally → List ℕ
-tallyBytes t =
+unfoldable pub tally_bytes : Tally → List ℕ
+tally_bytes t =
     bytes 4 t.accepted ++ bytes 4 t.refused ++ bytes 4 t.sent ++ bytes 4 t.delivered ++ bytes 4 t.lost
-    ++ repliesBytes t.replies
+    ++ replies_bytes t.replies

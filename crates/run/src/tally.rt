@@ -1,6 +1,6 @@
 // The tally in bytes.
 ghost use Rattle.std.specs.Prelude.{◌≡◌, length};
-ghost use Rattle.run.specs.Tallies.{tallyLength, tallyBytes};
+ghost use Rattle.run.specs.Tallies.{tally_length, tally_bytes};
 
 use bits::number::put32;
 use protocol::Tally;
@@ -9,8 +9,8 @@ pub const TALLY_LENGTH: usize = 36;
 
 // The nine counts, those of the replies last.
 pub fn put(out: &mut [u8], t: Tally)
-    requires { length out.old ≡ tallyLength }
-    ensures { out.new ≡ tallyBytes t }
+    requires { length out.old ≡ tally_length }
+    ensures { out.new ≡ tally_bytes t }
 {
     put32(out, 0, t.accepted);
     put32(out, 4, t.refused);

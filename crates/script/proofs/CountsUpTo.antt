@@ -7,15 +7,15 @@ use native.Mathlib.Omega.{arith}
 use lib.Dec.{eqb}
 use Rattle.bits.proofs.Cases.{by_bool}
 use Rattle.protocol.specs.Net.{Net, request}
-use Rattle.protocol.specs.Rules.{Rule, noTraffic, oneSent, oneLost, oldest}
-use Rattle.protocol.specs.Rules.{tick, ask, refresh, deliver, lose, giveUp, dropChild, member, route, rules}
+use Rattle.protocol.specs.Rules.{Rule, no_traffic, one_sent, one_lost, oldest}
+use Rattle.protocol.specs.Rules.{tick, ask, refresh, deliver, lose, give_up, drop_child, member, route, rules}
 use Rattle.protocol.specs.Steps.{rule, outcome}
-use Rattle.protocol.specs.Runs.{RunState, then, atStep, after, howMany, hears}
+use Rattle.protocol.specs.Runs.{RunState, then, at_step, after, how_many, hears}
 use Rattle.protocol.specs.Shaped.{All, none, both}
-use Rattle.protocol.proofs.laws.Messages.{bit_le}
-use Rattle.protocol.proofs.steps.Steps.{each-rule}
+use Rattle.protocol.proofs.Laws.Messages.{bit_le}
+use Rattle.protocol.proofs.Steps.Steps.{each-rule}
 use Rattle.protocol.proofs.CaseCounts.{run-cases}
-use Rattle.script.specs.inner.Counts.{RepliesUpTo, CountsUpTo}
+use Rattle.script.specs.Inner.Counts.{RepliesUpTo, CountsUpTo}
 
 -- a step sends, delivers and loses at most one message
 pub record AtMostOne (R : Rule Net) : Type 0 where
@@ -23,13 +23,13 @@ pub record AtMostOne (R : Rule Net) : Type 0 where
   pub delivered : R.traffic.delivered ≤ 1
   pub lost : R.traffic.lost ≤ 1
 
-still : (R : Rule Net) → R.traffic ≡ noTraffic → AtMostOne R
+still : (R : Rule Net) → R.traffic ≡ no_traffic → AtMostOne R
 still R e = rw e (record { sent = omega arith; delivered = omega arith; lost = omega arith })
 
-sends : (R : Rule Net) → R.traffic ≡ oneSent → AtMostOne R
+sends : (R : Rule Net) → R.traffic ≡ one_sent → AtMostOne R
 sends R e = rw e (record { sent = omega arith; delivered = omega arith; lost = omega arith })
 
-loses : (R : Rule Net) → R.traffic ≡ oneLost → AtMostOne R
+loses : (R : Rule Net) → R.traffic ≡ one_lost → AtMostOne R
 loses R e = rw e (record { sent = omega arith; delivered = omega arith; lost = omega arith })
 
 delivers : (N : Net) (a b c : ℕ) → AtMostOne (deliver N a b c)
@@ -37,7 +37,7 @@ unfolding deliver
 delivers N a b c = record { sent = bit_le (eqb (oldest N.channel a b).kind request); delivered = omega arith; lost = omega arith }
 
 all-few : (N : Net) (a b c : ℕ) → All AtMostOne (rules N a b c)
-unfolding rules tick ask refresh lose giveUp dropChild member route
+unfolding rules tick ask refresh lose give_up drop_child member route
 all-few N a b c =
     both (still _ refl) (both (sends _ refl) (both (sends _ refl)
     (both (delivers N a b c)
@@ -47,10 +47,10 @@ pub one_each : (N : Net) (k a b c : ℕ) → AtMostOne (rule N k a b c)
 one_each N k a b c = each-rule N AtMostOne (still _ refl) a b c (all-few N a b c) k
 
 -- a count of some of the steps
-some-steps : (so : Net → ℕ → ℕ → ℕ → ℕ → Bool) (N : Net) (s : List ℕ) (i : ℕ) → howMany so N s i ≤ i
-unfolding howMany
+some-steps : (so : Net → ℕ → ℕ → ℕ → ℕ → Bool) (N : Net) (s : List ℕ) (i : ℕ) → how_many so N s i ≤ i
+unfolding how_many
 some-steps so N s zero = omega arith
-some-steps so N s (suc i) = omega (arith, some-steps so N s i, bit_le (atStep s i (so (after N s i).net)))
+some-steps so N s (suc i) = omega (arith, some-steps so N s i, bit_le (at_step s i (so (after N s i).net)))
 
 then-few : (R : RunState) (i k a b c : ℕ) → RepliesUpTo (suc i) (then R k a b c).tally.replies → CountsUpTo i R.tally → CountsUpTo (suc i) (then R k a b c).tally
 unfolding then

@@ -10,14 +10,14 @@ use borrow.Author.Tests.{le-ltb, lt-leb}
 use Rattle.bits.proofs.Cases.{by_bool, by-lt}
 use Rattle.protocol.specs.Steps.{verdict, action?, rule, outcome, step}
 use Rattle.net.specs.View.{view}
-use Rattle.net.specs.Encode.{bytesLike}
+use Rattle.net.specs.Encode.{bytes_like}
 use Rattle.net.proofs.Forms.{view-bytes}
-use Rattle.access.specs.inner.Nets.{IsNet}
+use Rattle.access.specs.Inner.Nets.{IsNet}
 use Rattle.action.specs.declared.Answer.{Answer}
 use Rattle.action.specs.declared.Answer.TheVariants.{Refused}
-use Rattle.action.specs.inner.Ends.{bytesAfter, Ended, ActionEnd}
+use Rattle.action.specs.Inner.Ends.{bytes_after, Ended, ActionEnd}
 use Rattle.action.proofs.Ends.{refused}
-use Rattle.script.specs.inner.Ends.{StepEnd}
+use Rattle.script.specs.Inner.Ends.{StepEnd}
 
 -- by the number of the outcome
 by : (l : List ℕ) (k a b c o : ℕ) {d : Answer} {l' : List ℕ} → outcome (view l) k a b c ≡ o → Ended o (rule (view l) k a b c) l d l' → StepEnd l k a b c d l'
@@ -34,8 +34,8 @@ unfolding outcome
 arm n t l k a b c e {d} {l'} D = subst (λ (k : ℕ). StepEnd l k a b c d l') (sym e) (by l n a b c (verdict (rule (view l) n a b c)) (rw t refl) D)
 
 -- the bytes that are left are those of the step's net
-pub left-bytes : (l : List ℕ) → IsNet l → (k a b c : ℕ) {d : Answer} {l' : List ℕ} → StepEnd l k a b c d l' → l' ≡ bytesLike l (step (view l) k a b c)
-unfolding bytesAfter step
+pub left-bytes : (l : List ℕ) → IsNet l → (k a b c : ℕ) {d : Answer} {l' : List ℕ} → StepEnd l k a b c d l' → l' ≡ bytes_like l (step (view l) k a b c)
+unfolding bytes_after step
 left-bytes l r k a b c E = E.bytes ∙ by_bool (eqb (outcome (view l) k a b c) 0) (λ t. rw t refl) (λ f. rw f (sym (view-bytes _ l r.shape)))
 
 -- a number that is none of one to nine names no action

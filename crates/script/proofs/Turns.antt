@@ -16,20 +16,20 @@ use Rattle.protocol.proofs.Theorems.{run-shaped}
 use Rattle.layout.specs.declared.form.Mark.{Mark}
 use Rattle.layout.specs.Marks.{mark_of}
 use Rattle.net.specs.View.{view}
-use Rattle.net.specs.Encode.{bytesAs}
-use Rattle.access.specs.inner.Nets.{IsNet}
+use Rattle.net.specs.Encode.{bytes_as}
+use Rattle.access.specs.Inner.Nets.{IsNet}
 use Rattle.access.proofs.Laws.{is-net-of}
 use Rattle.action.specs.declared.Answer.{Answer}
-use Rattle.action.specs.inner.Ends.{Ended}
-use Rattle.script.specs.inner.Ends.{StepEnd}
-use Rattle.script.specs.inner.Counts.{countTraffic, counted}
+use Rattle.action.specs.Inner.Ends.{Ended}
+use Rattle.script.specs.Inner.Ends.{StepEnd}
+use Rattle.script.specs.Inner.Counts.{count_traffic, counted}
 use Rattle.script.proofs.Ends.{left-bytes}
 
 -- what a step did is counted as the book counts it
 counts_step : (R : RunState) (k a b c : ℕ) (l l' : List ℕ) (d : Answer) → Ended (outcome R.net k a b c) (rule R.net k a b c) l d l' → counted R.tally d ≡ (then R k a b c).tally
 unfolding counted then
 counts_step R k a b c l l' d E = rw E.accepted (by_bool (eqb (outcome R.net k a b c) 0)
-    (λ t. rw t (ap (countTraffic R.tally) (E.traffic (eqb-true _ 0 t))))
+    (λ t. rw t (ap (count_traffic R.tally) (E.traffic (eqb-true _ 0 t))))
     (λ f. rw f refl))
 
 module _ (m : Mark) (N : Net) (H : Shaped N) (s : List ℕ) where
@@ -47,13 +47,13 @@ module _ (m : Mark) (N : Net) (H : Shaped N) (s : List ℕ) where
   c i = get_or s (4 * i + 3) 0
 
   -- bytes that are those of the net after i steps
-  pub after-is-net : (i : ℕ) (l : List ℕ) → l ≡ bytesAs m (after N s i).net → (IsNet l) × (view l ≡ (after N s i).net) × (mark_of l ≡ m)
+  pub after-is-net : (i : ℕ) (l : List ℕ) → l ≡ bytes_as m (after N s i).net → (IsNet l) × (view l ≡ (after N s i).net) × (mark_of l ≡ m)
   after-is-net i l e = is-net-of m (after N s i).net l (run-shaped N s H i) e
 
-  module _ (i : ℕ) (l l' : List ℕ) (d : Answer) (e : l ≡ bytesAs m (after N s i).net) (w : StepEnd l (k i) (a i) (b i) (c i) d l') where
-    pub turn-net : l' ≡ bytesAs m (after N s (i + 1)).net
+  module _ (i : ℕ) (l l' : List ℕ) (d : Answer) (e : l ≡ bytes_as m (after N s i).net) (w : StepEnd l (k i) (a i) (b i) (c i) d l') where
+    pub turn-net : l' ≡ bytes_as m (after N s (i + 1)).net
     unfolding after then
-    turn-net = let was = after-is-net i l e in rw add-one (left-bytes l was.0 _ _ _ _ w ∙ (λ j. bytesAs (was.2 j) (step (was.1 j) (k i) (a i) (b i) (c i))))
+    turn-net = let was = after-is-net i l e in rw add-one (left-bytes l was.0 _ _ _ _ w ∙ (λ j. bytes_as (was.2 j) (step (was.1 j) (k i) (a i) (b i) (c i))))
 
     pub turn-tally : (t t' : Tally) → t ≡ (after N s i).tally → t' ≡ counted t d → t' ≡ (after N s (i + 1)).tally
     unfolding after

@@ -1,2 +1,2 @@
 -- The steps of a script over bytes.
-pub mod inner
+pub mod Inner

@@ -1,15 +1,17 @@
 // The steps of a script in turn, on bytes that are a net's, and their tally. A single step is a script of one: so that there is one place
 // that steps are taken from, and the compiler puts the actions there whole.
+#![tactic(auto)]
+
 ghost use Rattle.std.specs.Prelude.{◌≡◌, ◌/◌, ◌≤◌, length};
-ghost use Rattle.protocol.specs.Net.{longestScript};
-ghost use Rattle.protocol.specs.Cases.{caseNumber};
-ghost use Rattle.protocol.specs.Runs.{noTally, countCase, after};
+ghost use Rattle.protocol.specs.Net.{longest_script};
+ghost use Rattle.protocol.specs.Cases.{case_number};
+ghost use Rattle.protocol.specs.Runs.{no_tally, count_case, after};
 ghost use Rattle.layout.specs.Marks.{mark_of};
 ghost use Rattle.net.specs.View.{view};
-ghost use Rattle.net.specs.Encode.{bytesLike};
-ghost use Rattle.access.specs.inner.Nets.{IsNet};
-ghost use Rattle.script.specs.inner.Ends.{StepEnd};
-ghost use Rattle.script.specs.inner.Counts.{counted, RepliesUpTo, CountsUpTo};
+ghost use Rattle.net.specs.Encode.{bytes_like};
+ghost use Rattle.access.specs.Inner.Nets.{IsNet};
+ghost use Rattle.script.specs.Inner.Ends.{StepEnd};
+ghost use Rattle.script.specs.Inner.Counts.{counted, RepliesUpTo, CountsUpTo};
 
 use action::Answer;
 use layout::form::Mark;
@@ -17,7 +19,7 @@ use protocol::{Case, Replies, Tally};
 
 // No step yet.
 pub fn no_tally() -> Tally
-    ensures { result ≡ noTally }
+    ensures { result ≡ no_tally }
 {
     Tally {
         accepted: 0,
@@ -37,7 +39,7 @@ pub fn no_tally() -> Tally
 // One reply more of this case.
 fn counted_case(mut r: Replies, case: Case) -> Replies
     requires { RepliesUpTo 4095 r }
-    ensures { result ≡ countCase r (caseNumber case) }
+    ensures { result ≡ count_case r (case_number case) }
 {
     match case {
         Case::Adopted => {
@@ -122,9 +124,9 @@ fn step_in(net: &mut [u8], m: Mark, action: u8, a: u8, b: u8, c: u8) -> Answer
 pub fn run_in(net: &mut [u8], m: Mark, script: &[u8]) -> Tally
     requires net { IsNet net.old }
     requires m_value { m ≡ mark_of net.old }
-    requires script_len_bound { length script.now ≤ longestScript }
+    requires script_len_bound { length script.now ≤ longest_script }
     ensures { (result ≡ (after (view net.old) script.now (length script.now / 4)).tally)
-        × (net.new ≡ bytesLike net.old (after (view net.old) script.now (length script.now / 4)).net) }
+        × (net.new ≡ bytes_like net.old (after (view net.old) script.now (length script.now / 4)).net) }
 {
     let n = script.len() / 4;
     let mut tally = no_tally();

@@ -1,9 +1,9 @@
 // The channels.
 ghost use Rattle.std.specs.Prelude.{◌≡◌, ◌+◌, ◌≤◌, ◌<◌, length};
-ghost use Rattle.protocol.specs.Net.{capacity, mostStations};
-ghost use Rattle.layout.specs.Layout.{messageAt, channelSize, messageSize, netLength};
+ghost use Rattle.protocol.specs.Net.{capacity, most_stations};
+ghost use Rattle.layout.specs.Layout.{message_at, channel_size, message_size, net_length};
 ghost use Rattle.layout.specs.Bounded.{table};
-ghost use Rattle.shape.specs.Shape.{messageShaped, channelShaped, channelRowShaped, channelsShaped};
+ghost use Rattle.shape.specs.Shape.{message_shaped, channel_shaped, channel_row_shaped, channels_shaped};
 
 use bits::number::wide;
 use layout::front::neighbours;
@@ -14,8 +14,8 @@ use layout::stretch::zeros;
 use protocol::{CAPACITY, REPLY, REQUEST};
 
 fn message_shaped(s: &[u8], at: usize, g: usize) -> bool
-    requires { at + messageSize ≤ length s.now }
-    ensures { result ≡ messageShaped g s.now at }
+    requires { at + message_size ≤ length s.now }
+    ensures { result ≡ message_shaped g s.now at }
 {
     ((REQUEST <= s[at]) & (s[at] <= REPLY))
         & (wide(s[at + 1]) < g)
@@ -25,8 +25,8 @@ fn message_shaped(s: &[u8], at: usize, g: usize) -> bool
 
 // The messages of the channel at `at`: the first m, and the others.
 fn messages_shaped(s: &[u8], at: usize, g: usize, m: usize) -> bool
-    requires { (at + channelSize ≤ length s.now) × (m ≤ capacity) }
-    ensures { result ≡ table s.now (at + 1) messageSize capacity m (λ i. messageShaped g s.now (messageAt at i)) }
+    requires { (at + channel_size ≤ length s.now) × (m ≤ capacity) }
+    ensures { result ≡ table s.now (at + 1) message_size capacity m (λ i. message_shaped g s.now (message_at at i)) }
 {
     let mut ok = true;
     for i in 0..m {
@@ -37,8 +37,8 @@ fn messages_shaped(s: &[u8], at: usize, g: usize, m: usize) -> bool
 
 // The channel at `at`, to station d from one whose neighbours are m.
 fn channel_shaped(s: &[u8], at: usize, m: u16, g: usize, d: usize) -> bool
-    requires { (at + channelSize ≤ length s.now) × (d < mostStations) }
-    ensures { result ≡ channelShaped m g d s.now at }
+    requires { (at + channel_size ≤ length s.now) × (d < most_stations) }
+    ensures { result ≡ channel_shaped m g d s.now at }
 {
     let count = s[at];
     if CAPACITY < count {
@@ -52,8 +52,8 @@ fn channel_shaped(s: &[u8], at: usize, m: u16, g: usize, d: usize) -> bool
 }
 
 fn channel_row_shaped(s: &[u8], n: usize, g: usize, p: usize) -> bool
-    requires { (netLength ≤ length s.now) × (n ≤ mostStations) × (p < mostStations) }
-    ensures { result ≡ channelRowShaped s.now n g p }
+    requires { (net_length ≤ length s.now) × (n ≤ most_stations) × (p < most_stations) }
+    ensures { result ≡ channel_row_shaped s.now n g p }
 {
     let m = neighbours(s, p);
     let mut ok = true;
@@ -65,8 +65,8 @@ fn channel_row_shaped(s: &[u8], n: usize, g: usize, p: usize) -> bool
 }
 
 pub fn channels_shaped(s: &[u8], n: usize, g: usize) -> bool
-    requires { (netLength ≤ length s.now) × (n ≤ mostStations) }
-    ensures { result ≡ channelsShaped s.now n g }
+    requires { (net_length ≤ length s.now) × (n ≤ most_stations) }
+    ensures { result ≡ channels_shaped s.now n g }
 {
     let mut ok = true;
     for p in 0..n {

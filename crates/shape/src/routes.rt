@@ -1,8 +1,8 @@
 // The routes.
 ghost use Rattle.std.specs.Prelude.{◌≡◌, ◌≤◌, ◌<◌, length};
-ghost use Rattle.protocol.specs.Net.{mostStations};
-ghost use Rattle.layout.specs.Layout.{netLength};
-ghost use Rattle.shape.specs.Shape.{nilOr, routeShaped, routeRowShaped, routesShaped};
+ghost use Rattle.protocol.specs.Net.{most_stations};
+ghost use Rattle.layout.specs.Layout.{net_length};
+ghost use Rattle.shape.specs.Shape.{nil_or, route_shaped, route_row_shaped, routes_shaped};
 
 use layout::front::neighbours;
 use layout::offset::{ENTRIES_AT, ROUTE_ROW_SIZE, ROUTES_AT, route_at};
@@ -11,7 +11,7 @@ use protocol::NIL;
 
 // Whether r is nil or one of the neighbours m.
 pub fn nil_or(m: u16, r: u8) -> bool
-    ensures { result ≡ nilOr m r }
+    ensures { result ≡ nil_or m r }
 {
     (r == NIL) | bits::mask::has(m, r)
 }
@@ -19,14 +19,14 @@ pub fn nil_or(m: u16, r: u8) -> bool
 // The route at `at`, from p towards d; m are the neighbours of p.
 fn route_shaped(s: &[u8], at: usize, m: u16, p: usize, d: usize) -> bool
     requires { at < length s.now }
-    ensures { result ≡ routeShaped m p d s.now at }
+    ensures { result ≡ route_shaped m p d s.now at }
 {
     nil_or(m, s[at]) & (!(p == d) | (s[at] == NIL))
 }
 
 fn route_row_shaped(s: &[u8], n: usize, p: usize) -> bool
-    requires { (netLength ≤ length s.now) × (n ≤ mostStations) × (p < mostStations) }
-    ensures { result ≡ routeRowShaped s.now n p }
+    requires { (net_length ≤ length s.now) × (n ≤ most_stations) × (p < most_stations) }
+    ensures { result ≡ route_row_shaped s.now n p }
 {
     let m = neighbours(s, p);
     let mut ok = true;
@@ -38,8 +38,8 @@ fn route_row_shaped(s: &[u8], n: usize, p: usize) -> bool
 }
 
 pub fn routes_shaped(s: &[u8], n: usize) -> bool
-    requires { (netLength ≤ length s.now) × (n ≤ mostStations) }
-    ensures { result ≡ routesShaped s.now n }
+    requires { (net_length ≤ length s.now) × (n ≤ most_stations) }
+    ensures { result ≡ routes_shaped s.now n }
 {
     let mut ok = true;
     for p in 0..n {

@@ -1,9 +1,9 @@
 // The station entries.
 ghost use Rattle.std.specs.Prelude.{◌≡◌, ◌+◌, ◌≤◌, ◌<◌, length};
 ghost use Rattle.bits.specs.Below.{all_below};
-ghost use Rattle.protocol.specs.Net.{mostGroups, mostStations};
-ghost use Rattle.layout.specs.Layout.{entrySize, netLength};
-ghost use Rattle.shape.specs.Shape.{parentsShaped, memberAndMasksShaped, entryShaped, entryCellShaped, entriesShaped};
+ghost use Rattle.protocol.specs.Net.{most_groups, most_stations};
+ghost use Rattle.layout.specs.Layout.{entry_size, net_length};
+ghost use Rattle.shape.specs.Shape.{parents_shaped, member_and_masks_shaped, entry_shaped, entry_cell_shaped, entries_shaped};
 
 use crate::routes::nil_or;
 use bits::number::{get16, wide};
@@ -15,16 +15,16 @@ use protocol::{MOST_GROUPS, MOST_STATIONS, NIL};
 
 // The parents in the entry at `at`, of station p with the neighbours m, where r is the root.
 fn parents_shaped(s: &[u8], at: usize, m: u16, r: usize, p: usize) -> bool
-    requires { at + entrySize ≤ length s.now }
-    ensures { result ≡ parentsShaped m r p s.now at }
+    requires { at + entry_size ≤ length s.now }
+    ensures { result ≡ parents_shaped m r p s.now at }
 {
     nil_or(m, s[at]) & nil_or(m, s[at + 1]) & (!(r == p) | ((s[at] == NIL) & (s[at + 1] == NIL)))
 }
 
 // Its flag and masks.
 fn member_and_masks_shaped(s: &[u8], at: usize, m: u16) -> bool
-    requires { at + entrySize ≤ length s.now }
-    ensures { result ≡ memberAndMasksShaped m s.now at }
+    requires { at + entry_size ≤ length s.now }
+    ensures { result ≡ member_and_masks_shaped m s.now at }
 {
     (s[at + 2] <= 1)
         & (s[at + 3] == 0)
@@ -33,16 +33,16 @@ fn member_and_masks_shaped(s: &[u8], at: usize, m: u16) -> bool
 }
 
 fn entry_shaped(s: &[u8], at: usize, m: u16, r: usize, p: usize) -> bool
-    requires { at + entrySize ≤ length s.now }
-    ensures { result ≡ entryShaped m r p s.now at }
+    requires { at + entry_size ≤ length s.now }
+    ensures { result ≡ entry_shaped m r p s.now at }
 {
     parents_shaped(s, at, m, r, p) & member_and_masks_shaped(s, at, m)
 }
 
 // The cell of group k and station p, where n stations and g groups are used.
 fn entry_cell_shaped(s: &[u8], m: Mark, n: usize, g: usize, k: usize, p: usize) -> bool
-    requires { (netLength ≤ length s.now) × (k < mostGroups) × (p < mostStations) }
-    ensures { result ≡ entryCellShaped s.now n m g k p }
+    requires { (net_length ≤ length s.now) × (k < most_groups) × (p < most_stations) }
+    ensures { result ≡ entry_cell_shaped s.now n m g k p }
 {
     let at = entry_at(m, k, p);
     if (k < g) & (p < n) {
@@ -53,8 +53,8 @@ fn entry_cell_shaped(s: &[u8], m: Mark, n: usize, g: usize, k: usize, p: usize) 
 }
 
 fn group_entries_shaped(s: &[u8], m: Mark, n: usize, g: usize, k: usize) -> bool
-    requires { (netLength ≤ length s.now) × (k < mostGroups) }
-    ensures { result ≡ all_below mostStations (entryCellShaped s.now n m g k) }
+    requires { (net_length ≤ length s.now) × (k < most_groups) }
+    ensures { result ≡ all_below most_stations (entry_cell_shaped s.now n m g k) }
 {
     let mut ok = true;
     for p in 0..MOST_STATIONS {
@@ -64,8 +64,8 @@ fn group_entries_shaped(s: &[u8], m: Mark, n: usize, g: usize, k: usize) -> bool
 }
 
 pub fn entries_shaped(s: &[u8], m: Mark, n: usize, g: usize) -> bool
-    requires { netLength ≤ length s.now }
-    ensures { result ≡ entriesShaped s.now n m g }
+    requires { net_length ≤ length s.now }
+    ensures { result ≡ entries_shaped s.now n m g }
 {
     let mut ok = true;
     for k in 0..MOST_GROUPS {

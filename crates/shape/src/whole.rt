@@ -1,7 +1,7 @@
 // The whole of a net.
 ghost use Rattle.std.specs.Prelude.{◌≡◌, length};
-ghost use Rattle.layout.specs.Layout.{netLength};
-ghost use Rattle.shape.specs.Shape.{laidOut, shapedAs, shaped};
+ghost use Rattle.layout.specs.Layout.{net_length};
+ghost use Rattle.shape.specs.Shape.{laid_out, shaped_as, shaped};
 
 use bits::number::wide;
 use layout::form::{Mark, mark_byte};
@@ -9,8 +9,8 @@ use layout::front::{groups, stations};
 use layout::offset::NET_LENGTH;
 
 fn laid_out(s: &[u8], m: Mark) -> bool
-    requires { length s.now ≡ netLength }
-    ensures { result ≡ laidOut m s.now }
+    requires { length s.now ≡ net_length }
+    ensures { result ≡ laid_out m s.now }
 {
     if plan::whole::planned(s, NET_LENGTH as u32, mark_byte(m)) {
         let n = wide(stations(s));
@@ -25,7 +25,7 @@ fn laid_out(s: &[u8], m: Mark) -> bool
 
 // Whether the bytes are a well-shaped net in the form of this mark.
 pub fn shaped_as(s: &[u8], m: Mark) -> bool
-    ensures { result ≡ shapedAs m s.now }
+    ensures { result ≡ shaped_as m s.now }
 {
     if s.len() != NET_LENGTH {
         return false;

@@ -11,38 +11,38 @@ use Rattle.bits.proofs.Cases.{by_bool}
 use Rattle.protocol.specs.declared.Case.{Case}
 use Rattle.protocol.specs.declared.Case.TheVariants.{Adopted, NotTentative, Unconnected, NotGreater}
 use Rattle.protocol.specs.Net.{Net, request}
-use Rattle.protocol.specs.Cases.{caseNumber, no_case}
-use Rattle.protocol.specs.Rules.{Rule, oldest, case_at, tick, ask, refresh, deliver, lose, giveUp, dropChild, member, route, rules}
-use Rattle.protocol.specs.Steps.{outcome, step, caseHeard}
-use Rattle.protocol.specs.Runs.{noTally, case_count, countCase, then, after}
+use Rattle.protocol.specs.Cases.{case_number, no_case}
+use Rattle.protocol.specs.Rules.{Rule, oldest, case_at, tick, ask, refresh, deliver, lose, give_up, drop_child, member, route, rules}
+use Rattle.protocol.specs.Steps.{outcome, step, case_heard}
+use Rattle.protocol.specs.Runs.{no_tally, case_count, count_case, then, after}
 use Rattle.protocol.specs.Shaped.{All, none, both}
-use Rattle.protocol.proofs.steps.Steps.{each-rule}
+use Rattle.protocol.proofs.Steps.Steps.{each-rule}
 use Rattle.layout.specs.declared.form.Mark.{Mark}
-use Rattle.shape.specs.Shape.{shapedAs}
+use Rattle.shape.specs.Shape.{shaped_as}
 use Rattle.shape.proofs.Nets.{marked}
 use Rattle.net.specs.View.{view}
-use Rattle.net.specs.Encode.{bytesAs, bytesLike}
+use Rattle.net.specs.Encode.{bytes_as, bytes_like}
 use Rattle.net.proofs.Forms.{view-bytes}
-use Rattle.step.specs.Steps.{stepOutcomeAs, stepCaseAs, stepAnswerAs, netAfterStepAs}
-use Rattle.step.specs.inner.Counted.{caseCounted}
+use Rattle.step.specs.Steps.{step_outcome_as, step_case_as, step_answer_as, net_after_step_as}
+use Rattle.step.specs.Inner.Counted.{case_counted}
 
 -- ---- the case is the one that has a count
 record Counted (R : Rule Net) : Type 0 where
-  pub case : caseCounted (countCase noTally.replies R.traffic.case) ≡ R.traffic.case
+  pub case : case_counted (count_case no_tally.replies R.traffic.case) ≡ R.traffic.case
 
 counted_none : (R : Rule Net) → R.traffic.case ≡ no_case → Counted R
-unfolding caseCounted countCase case_count caseNumber
+unfolding case_counted count_case case_count case_number
 counted_none R e = record { case = rw e refl }
 
-counted-case : (x : Case) → caseCounted (countCase noTally.replies (caseNumber x)) ≡ caseNumber x
-unfolding caseCounted countCase case_count caseNumber
+counted-case : (x : Case) → case_counted (count_case no_tally.replies (case_number x)) ≡ case_number x
+unfolding case_counted count_case case_count case_number
 counted-case Adopted = refl
 counted-case NotTentative = refl
 counted-case Unconnected = refl
 counted-case NotGreater = refl
 
 counted-delivery : (N : Net) (a b c : ℕ) → Counted (deliver N a b c)
-unfolding deliver caseCounted countCase case_count caseNumber
+unfolding deliver case_counted count_case case_count case_number
 counted-delivery N a b c = record {
   case = by_bool (eqb (oldest N.channel a b).kind request)
       (λ t. rw t refl)
@@ -50,7 +50,7 @@ counted-delivery N a b c = record {
 }
 
 all-counted : (N : Net) (a b c : ℕ) → All Counted (rules N a b c)
-unfolding rules tick ask refresh lose giveUp dropChild member route
+unfolding rules tick ask refresh lose give_up drop_child member route
 all-counted N a b c =
     both (counted_none _ refl) (both (counted_none _ refl) (both (counted_none _ refl)
     (both (counted-delivery N a b c)
@@ -73,8 +73,8 @@ module _ (N : Net) (k a b c : ℕ) where
   unfolding after then
   one-accepted e = by_bool (eqb (outcome N k a b c) 0) (eqb-true _ 0) (λ f. let w : 1 ≡ 0 = rw f at e in absurd (omega (arith, w)))
 
-  pub one-case : outcome N k a b c ≡ 0 → caseCounted (after N one 1).tally.replies ≡ caseHeard N k a b c
-  unfolding after then caseHeard
+  pub one-case : outcome N k a b c ≡ 0 → case_counted (after N one 1).tally.replies ≡ case_heard N k a b c
+  unfolding after then case_heard
   one-case z = rw (eq-eqb _ 0 z) (each-rule N Counted (counted_none _ refl) a b c (all-counted N a b c) k).case
 
 -- ---- any bytes: a net's in the form of this mark, and others
@@ -83,20 +83,20 @@ module _ (m : Mark) (l : List ℕ) (k a b c : ℕ) where
   O = outcome (view l) k a b c
 
   -- what a refused step leaves
-  pub kept : shapedAs m l ≡ true → O ≢ 0 → bytesLike l (step (view l) k a b c) ≡ l
+  pub kept : shaped_as m l ≡ true → O ≢ 0 → bytes_like l (step (view l) k a b c) ≡ l
   unfolding step
   kept s n = rw (ne_eqb _ 0 n) (view-bytes _ l (rw (marked m l s) s))
 
-  pub on-refusal : shapedAs m l ≡ true → O ≢ 0 → {o : ℕ} {l' : List ℕ} → o ≡ O → l' ≡ l
-      → (record { outcome = o; case = 0 } ≡ stepAnswerAs m l k a b c) × (l' ≡ netAfterStepAs m l k a b c)
-  unfolding stepOutcomeAs stepCaseAs netAfterStepAs caseHeard
+  pub on-refusal : shaped_as m l ≡ true → O ≢ 0 → {o : ℕ} {l' : List ℕ} → o ≡ O → l' ≡ l
+      → (record { outcome = o; case = 0 } ≡ step_answer_as m l k a b c) × (l' ≡ net_after_step_as m l k a b c)
+  unfolding step_outcome_as step_case_as net_after_step_as case_heard
   on-refusal s n e f = rw (s, ne_eqb _ 0 n) ((λ i. record { outcome = e i; case = 0 }), f)
 
-  pub on-net : shapedAs m l ≡ true → O ≡ 0 → {x : ℕ} {l' : List ℕ} → x ≡ caseHeard (view l) k a b c → l' ≡ bytesLike l (step (view l) k a b c)
-      → (record { outcome = 0; case = x } ≡ stepAnswerAs m l k a b c) × (l' ≡ netAfterStepAs m l k a b c)
-  unfolding stepOutcomeAs stepCaseAs netAfterStepAs
-  on-net s z e f = rw (s, z) ((λ i. record { outcome = 0; case = e i }), f ∙ ap (λ (n : Mark). bytesAs n (step (view l) k a b c)) (marked m l s))
+  pub on-net : shaped_as m l ≡ true → O ≡ 0 → {x : ℕ} {l' : List ℕ} → x ≡ case_heard (view l) k a b c → l' ≡ bytes_like l (step (view l) k a b c)
+      → (record { outcome = 0; case = x } ≡ step_answer_as m l k a b c) × (l' ≡ net_after_step_as m l k a b c)
+  unfolding step_outcome_as step_case_as net_after_step_as
+  on-net s z e f = rw (s, z) ((λ i. record { outcome = 0; case = e i }), f ∙ ap (λ (n : Mark). bytes_as n (step (view l) k a b c)) (marked m l s))
 
-  pub on_none : shapedAs m l ≡ false → (record { outcome = 1; case = 0 } ≡ stepAnswerAs m l k a b c) × (l ≡ netAfterStepAs m l k a b c)
-  unfolding stepOutcomeAs stepCaseAs netAfterStepAs
+  pub on_none : shaped_as m l ≡ false → (record { outcome = 1; case = 0 } ≡ step_answer_as m l k a b c) × (l ≡ net_after_step_as m l k a b c)
+  unfolding step_outcome_as step_case_as net_after_step_as
   on_none f = rw f (refl, refl)

@@ -13,19 +13,19 @@ use Rattle.protocol.specs.declared.Case.{Case}
 use Rattle.protocol.specs.declared.Case.TheVariants.{Adopted}
 use Rattle.protocol.specs.declared.Entry.{Entry}
 use Rattle.protocol.specs.declared.Message.{Message}
-use Rattle.protocol.specs.Net.{Net, reply, setEntry, takeAt}
-use Rattle.protocol.specs.Cases.{caseNumber, no_case, CaseHolds}
-use Rattle.protocol.specs.Entries.{stopsWaiting}
+use Rattle.protocol.specs.Net.{Net, reply, set_entry, take_at}
+use Rattle.protocol.specs.Cases.{case_number, no_case, CaseHolds}
+use Rattle.protocol.specs.Entries.{stops_waiting}
 use Rattle.protocol.specs.Rules.{oldest}
-use Rattle.protocol.specs.Steps.{outcome, caseHeard}
+use Rattle.protocol.specs.Steps.{outcome, case_heard}
 use Rattle.protocol.specs.Runs.{delivers}
-use Rattle.protocol.proofs.steps.Hears as book
+use Rattle.protocol.proofs.Steps.Hears as book
 use Rattle.layout.specs.declared.form.Mark.{Mark}
-use Rattle.shape.specs.Shape.{shapedAs}
+use Rattle.shape.specs.Shape.{shaped_as}
 use Rattle.net.specs.View.{view}
-use Rattle.net.specs.Encode.{bytesAs}
+use Rattle.net.specs.Encode.{bytes_as}
 use Rattle.net.proofs.Forms.{seen}
-use Rattle.step.specs.Steps.{stepOutcomeAs, stepCaseAs, netAfterStepAs}
+use Rattle.step.specs.Steps.{step_outcome_as, step_case_as, net_after_step_as}
 use Rattle.step.proofs.After.{after-bytes}
 
 module _ (m : Mark) (l : List ℕ) (k a b c : ℕ) where
@@ -39,21 +39,21 @@ module _ (m : Mark) (l : List ℕ) (k a b c : ℕ) where
   abbrev to : Entry
   to = N.entry from.group b
 
-  pub refused-case : stepOutcomeAs m l k a b c ≢ 0 → stepCaseAs m l k a b c ≡ no_case
-  unfolding stepOutcomeAs stepCaseAs caseHeard
-  refused-case n = by_bool (shapedAs m l)
+  pub refused-case : step_outcome_as m l k a b c ≢ 0 → step_case_as m l k a b c ≡ no_case
+  unfolding step_outcome_as step_case_as case_heard
+  refused-case n = by_bool (shaped_as m l)
       (λ s. let r : outcome N k a b c ≢ 0 = λ z. n (rw s z) in rw (s, ne_eqb _ 0 r) refl)
       (λ f. rw f refl)
 
-  pub told-case : shapedAs m l ≡ true → (x : Case) → (stepCaseAs m l k a b c ≡ caseNumber x) ↔ ((delivers reply N k a b c ≡ true) × CaseHolds x to a from)
-  unfolding stepCaseAs
+  pub told-case : shaped_as m l ≡ true → (x : Case) → (step_case_as m l k a b c ≡ case_number x) ↔ ((delivers reply N k a b c ≡ true) × CaseHolds x to a from)
+  unfolding step_case_as
   told-case s x = rw s (book.case-told N (seen m l s) k a b c x)
 
-  pub not_taken : stepCaseAs m l k a b c ≢ no_case → stepCaseAs m l k a b c ≢ caseNumber Adopted
-      → netAfterStepAs m l k a b c ≡ bytesAs m (setEntry (takeAt N a b 0) from.group b (stopsWaiting to a))
-  unfolding stepCaseAs
-  not_taken some other = by_bool (shapedAs m l)
-      (λ s. let some' : caseHeard N k a b c ≢ no_case = λ z. some (rw s z) in
-      let other' : caseHeard N k a b c ≢ caseNumber Adopted = λ z. other (rw s z) in
-      after-bytes m l k a b c s ∙ ap (bytesAs m) (book.not_taken N k a b c some' other'))
+  pub not_taken : step_case_as m l k a b c ≢ no_case → step_case_as m l k a b c ≢ case_number Adopted
+      → net_after_step_as m l k a b c ≡ bytes_as m (set_entry (take_at N a b 0) from.group b (stops_waiting to a))
+  unfolding step_case_as
+  not_taken some other = by_bool (shaped_as m l)
+      (λ s. let some' : case_heard N k a b c ≢ no_case = λ z. some (rw s z) in
+      let other' : case_heard N k a b c ≢ case_number Adopted = λ z. other (rw s z) in
+      after-bytes m l k a b c s ∙ ap (bytes_as m) (book.not_taken N k a b c some' other'))
       (λ f. absurd (some (rw f refl)))

@@ -17,21 +17,21 @@ module _ (R : Rule Net) where
   unfolding verdict
   is-4 a b = rw (a, b) refl
 
-  pub is-6 : R.operands ≡ true → R.enabled ≡ true → R.clockRoom ≡ true → verdict R ≢ 0 → 6 ≡ verdict R
+  pub is-6 : R.operands ≡ true → R.enabled ≡ true → R.clock_room ≡ true → verdict R ≢ 0 → 6 ≡ verdict R
   unfolding verdict
-  is-6 a b c n = by_bool R.sendRoom (λ t. absurd (n (rw (a, b, c, t) refl))) (λ f. rw (a, b, c, f) refl)
+  is-6 a b c n = by_bool R.send_room (λ t. absurd (n (rw (a, b, c, t) refl))) (λ f. rw (a, b, c, f) refl)
 
   -- of a rule that needs no room, and of one that is always enabled and sends nothing
-  pub is-3-or-4 : R.clockRoom ≡ true → R.sendRoom ≡ true → verdict R ≢ 0 → cond R.operands 4 3 ≡ verdict R
+  pub is-3-or-4 : R.clock_room ≡ true → R.send_room ≡ true → verdict R ≢ 0 → cond R.operands 4 3 ≡ verdict R
   unfolding verdict
   is-3-or-4 c d n = by_bool R.operands
       (λ a. by_bool R.enabled (λ b. absurd (n (rw (a, b, c, d) refl))) (λ b. rw (a, b) refl))
       (λ a. rw a refl)
 
-  pub is-3-or-5 : R.enabled ≡ true → R.sendRoom ≡ true → verdict R ≢ 0 → cond R.operands 5 3 ≡ verdict R
+  pub is-3-or-5 : R.enabled ≡ true → R.send_room ≡ true → verdict R ≢ 0 → cond R.operands 5 3 ≡ verdict R
   unfolding verdict
   is-3-or-5 b d n = by_bool R.operands
-      (λ a. by_bool R.clockRoom (λ c. absurd (n (rw (a, b, c, d) refl))) (λ c. rw (a, b, c) refl))
+      (λ a. by_bool R.clock_room (λ c. absurd (n (rw (a, b, c, d) refl))) (λ c. rw (a, b, c) refl))
       (λ a. rw a refl)
 
 -- the outcome of a step is its rule's verdict, where there is such an action

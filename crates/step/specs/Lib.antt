@@ -1,3 +1,3 @@
 -- One step over bytes.
 pub mod Steps
-pub mod inner
+pub mod Inner

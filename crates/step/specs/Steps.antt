@@ -1,32 +1,32 @@
 -- A step over bytes, in each form: what it answers, and the bytes that it leaves.
 use Rattle.std.specs.Prelude.{cond, List, ℕ, eqb}
 use Rattle.protocol.specs.Cases.{no_case}
-use Rattle.protocol.specs.Steps.{or_else, outcome, step, caseHeard}
+use Rattle.protocol.specs.Steps.{or_else, outcome, step, case_heard}
 use Rattle.layout.specs.declared.form.Mark.{Mark}
 use Rattle.layout.specs.declared.form.Mark.TheVariants.{Saved}
-use Rattle.shape.specs.Shape.{shapedAs}
+use Rattle.shape.specs.Shape.{shaped_as}
 use Rattle.net.specs.View.{view}
-use Rattle.net.specs.Encode.{bytesAs}
+use Rattle.net.specs.Encode.{bytes_as}
 use Rattle.step.specs.declared.Answer.{Answer}
 
 -- 1: "the net is not 15,728 bytes or not well shaped", in the form of this mark; the others are the rules'
-unfoldable pub stepOutcomeAs : Mark → List ℕ → ℕ → ℕ → ℕ → ℕ → ℕ
-stepOutcomeAs m l k a b c = or_else (shapedAs m l) 1 (outcome (view l) k a b c)
+unfoldable pub step_outcome_as : Mark → List ℕ → ℕ → ℕ → ℕ → ℕ → ℕ
+step_outcome_as m l k a b c = or_else (shaped_as m l) 1 (outcome (view l) k a b c)
 
 -- the number of the case of the reply that is heard; "a refusal returns its number with zeros for every other result"
-unfoldable pub stepCaseAs : Mark → List ℕ → ℕ → ℕ → ℕ → ℕ → ℕ
-stepCaseAs m l k a b c = cond (shapedAs m l) (caseHeard (view l) k a b c) no_case
+unfoldable pub step_case_as : Mark → List ℕ → ℕ → ℕ → ℕ → ℕ → ℕ
+step_case_as m l k a b c = cond (shaped_as m l) (case_heard (view l) k a b c) no_case
 
-abbrev pub stepAnswerAs : Mark → List ℕ → ℕ → ℕ → ℕ → ℕ → Answer
-stepAnswerAs m l k a b c = record { outcome = stepOutcomeAs m l k a b c; case = stepCaseAs m l k a b c }
+abbrev pub step_answer_as : Mark → List ℕ → ℕ → ℕ → ℕ → ℕ → Answer
+step_answer_as m l k a b c = record { outcome = step_outcome_as m l k a b c; case = step_case_as m l k a b c }
 
 -- "A refusal .. changes no lent byte"; an accepted step leaves the bytes of the rule's next net, in the same form
-unfoldable pub netAfterStepAs : Mark → List ℕ → ℕ → ℕ → ℕ → ℕ → List ℕ
-netAfterStepAs m l k a b c = cond (eqb (stepOutcomeAs m l k a b c) 0) (bytesAs m (step (view l) k a b c)) l
+unfoldable pub net_after_step_as : Mark → List ℕ → ℕ → ℕ → ℕ → ℕ → List ℕ
+net_after_step_as m l k a b c = cond (eqb (step_outcome_as m l k a b c) 0) (bytes_as m (step (view l) k a b c)) l
 
 -- the net of document 01 is the saved form
-abbrev pub stepAnswer : List ℕ → ℕ → ℕ → ℕ → ℕ → Answer
-stepAnswer l k a b c = stepAnswerAs Saved l k a b c
+abbrev pub step_answer : List ℕ → ℕ → ℕ → ℕ → ℕ → Answer
+step_answer l k a b c = step_answer_as Saved l k a b c
 
-abbrev pub netAfterStep : List ℕ → ℕ → ℕ → ℕ → ℕ → List ℕ
-netAfterStep l k a b c = netAfterStepAs Saved l k a b c
+abbrev pub net_after_step : List ℕ → ℕ → ℕ → ℕ → ℕ → List ℕ
+net_after_step l k a b c = net_after_step_as Saved l k a b c

@@ -1,10 +1,12 @@
 // One step of a net in bytes.
+#![tactic(auto)]
+
 mod refusal;
 
 ghost use Rattle.std.specs.Prelude.{◌≡◌};
 ghost use Rattle.protocol.specs.Cases.{no_case};
-ghost use Rattle.step.specs.inner.Counted.{caseCounted};
-ghost use Rattle.step.specs.Steps.{stepAnswerAs, netAfterStepAs, stepAnswer, netAfterStep};
+ghost use Rattle.step.specs.Inner.Counted.{case_counted};
+ghost use Rattle.step.specs.Steps.{step_answer_as, net_after_step_as, step_answer, net_after_step};
 
 use layout::form::Mark;
 use protocol::Replies;
@@ -28,7 +30,7 @@ fn refused(k: u8) -> Answer
 
 // The number of the case of which one reply was heard, or 0 where none was.
 fn case_counted(r: Replies) -> u8
-    ensures { result ≡ caseCounted r }
+    ensures { result ≡ case_counted r }
 {
     if r.adopted != 0 {
         return 1;
@@ -47,8 +49,8 @@ fn case_counted(r: Replies) -> u8
 
 // A step of any bytes, which are to be a net in the form of this mark: its answer.
 pub fn step_as(net: &mut [u8], m: Mark, action: u8, a: u8, b: u8, c: u8) -> Answer
-    ensures { (result ≡ stepAnswerAs m net.old action a b c)
-        × (net.new ≡ netAfterStepAs m net.old action a b c) }
+    ensures { (result ≡ step_answer_as m net.old action a b c)
+        × (net.new ≡ net_after_step_as m net.old action a b c) }
 {
     if !shape::whole::shaped_as(net, m) {
         return refused(1);
@@ -65,7 +67,7 @@ pub fn step_as(net: &mut [u8], m: Mark, action: u8, a: u8, b: u8, c: u8) -> Answ
 
 // In the saved form.
 pub fn step(net: &mut [u8], action: u8, a: u8, b: u8, c: u8) -> Answer
-    ensures { (result ≡ stepAnswer net.old action a b c) × (net.new ≡ netAfterStep net.old action a b c) }
+    ensures { (result ≡ step_answer net.old action a b c) × (net.new ≡ net_after_step net.old action a b c) }
 {
     step_as(net, Mark::Saved, action, a, b, c)
 }

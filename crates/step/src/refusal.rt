@@ -6,7 +6,7 @@ ghost use Rattle.protocol.specs.Rules as rule;
 ghost use Rattle.protocol.specs.Steps.{verdict, outcome};
 ghost use Rattle.layout.specs.Marks.{mark_of};
 ghost use Rattle.net.specs.View.{view};
-ghost use Rattle.access.specs.inner.Nets.{IsNet};
+ghost use Rattle.access.specs.Inner.Nets.{IsNet};
 
 use action::operands::{of_cable, of_flag, of_group, of_pair, of_position, of_route, of_station};
 use layout::form::Mark;

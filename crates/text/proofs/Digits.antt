@@ -6,15 +6,15 @@ use native.Mathlib.Nat.{pow-suc}
 use native.Mathlib.Numerals.{unary_clauses}
 use native.Mathlib.Omega.{arith}
 use borrow.Author.Tests.{lt-ltb, le-ltb}
-use Rattle.text.specs.Text.{digitsBy}
+use Rattle.text.specs.Text.{digits_by}
 
-pub one-digit : (most n : ℕ) → 0 < most → n < 10 → digitsBy most n ≡ ((48 + n) ∷ [])
-unfolding digitsBy
+pub one-digit : (most n : ℕ) → 0 < most → n < 10 → digits_by most n ≡ ((48 + n) ∷ [])
+unfolding digits_by
 one-digit zero n h hn = let z : ◌≡◌ {A = ℕ} 0 1 = omega arith in cc
 one-digit (suc most) n h hn = simp (lt-ltb _ _ hn)
 
-pub more-digits : (most n : ℕ) → 0 < most → 10 ≤ n → digitsBy most n ≡ digitsBy (most - 1) (n / 10) ++ ((48 + n % 10) ∷ [])
-unfolding digitsBy
+pub more-digits : (most n : ℕ) → 0 < most → 10 ≤ n → digits_by most n ≡ digits_by (most - 1) (n / 10) ++ ((48 + n % 10) ∷ [])
+unfolding digits_by
 more-digits zero n h hn = let z : ◌≡◌ {A = ℕ} 0 1 = omega arith in cc
 more-digits (suc most) n h hn = let e : suc most - 1 ≡ most = omega arith in rw (le-ltb _ _ hn, e)
 

@@ -11,8 +11,8 @@ use lib.ListN.{length, get_or, drop}
 use lib.Seq.{drop-cons}
 use borrow.Author.Tests.{lt-ltb, ltb-true}
 use Rattle.bits.proofs.Cases.{by-lt, and_l, and_r}
-use Rattle.text.specs.Text.{isGap, inGap, filled}
-use Rattle.text.specs.inner.Within.{WroteWithin}
+use Rattle.text.specs.Text.{is_gap, in_gap, filled}
+use Rattle.text.specs.Inner.Within.{WroteWithin}
 use Rattle.text.proofs.Puts.{within_of, within_none, within-as, ◌then◌}
 
 drop_all : (l : List ℕ) (k : ℕ) → length l ≤ k → drop k l ≡ []
@@ -33,20 +33,20 @@ number-left k n b t = ltb-true k n (and_l (ltb k n) b t)
 module _ (w ns : List ℕ) where
   -- ---- byte i of the pattern: a gap that number k is to fill, or not
   abbrev due : ℕ → ℕ → Bool
-  due i k = ltb k (length ns) && isGap (get_or w i 0)
+  due i k = ltb k (length ns) && is_gap (get_or w i 0)
 
   module _ (i k : ℕ) (h : i < length w) where
-    at_gap : due i k ≡ true → filled (drop i w) (drop k ns) ≡ inGap (get_or w i 0) (get_or ns k 0) ++ filled (drop (i + 1) w) (drop (k + 1) ns)
+    at_gap : due i k ≡ true → filled (drop i w) (drop k ns) ≡ in_gap (get_or w i 0) (get_or ns k 0) ++ filled (drop (i + 1) w) (drop (k + 1) ns)
     unfolding filled
     at_gap t =
-        let l : k < length ns = number-left k (length ns) (isGap (get_or w i 0)) t in
-        let e : isGap (get_or w i 0) ≡ true = and_r (ltb k (length ns)) (isGap (get_or w i 0)) t in
+        let l : k < length ns = number-left k (length ns) (is_gap (get_or w i 0)) t in
+        let e : is_gap (get_or w i 0) ≡ true = and_r (ltb k (length ns)) (is_gap (get_or w i 0)) t in
         rw (drop-cons w i 0, drop-cons ns k 0, e, add-one i, add-one k) refl
 
     no_gap : due i k ≡ false → filled (drop i w) (drop k ns) ≡ get_or w i 0 ∷ filled (drop (i + 1) w) (drop k ns)
     unfolding filled
     no_gap f = by-lt k (length ns)
-        (λ l. let e : isGap (get_or w i 0) ≡ false = rw (lt-ltb _ _ l) at f in rw (drop-cons w i 0, drop-cons ns k 0, e, add-one) refl)
+        (λ l. let e : is_gap (get_or w i 0) ≡ false = rw (lt-ltb _ _ l) at f in rw (drop-cons w i 0, drop-cons ns k 0, e, add-one) refl)
         (λ l. rw (drop-cons w i 0, drop_all ns k l, add-one) (ap (get_or w i 0 ∷◌) (sym (filled_none (drop (suc i) w)))))
 
   -- ---- the first i bytes are put, and k of the numbers
@@ -71,8 +71,8 @@ module _ (w ns : List ℕ) where
   }
 
   module _ {o o' o'' : List ℕ} {at next r i k : ℕ} (F : Filling o o' at next i k) (h : i < length w) where
-    pub filling-number : due i k ≡ true → WroteWithin 10 o' o'' next r (inGap (get_or w i 0) (get_or ns k 0)) → Filling o o'' at r (i + 1) (k + 1)
-    filling-number t X = filling-more _ F X (at_gap i k h t) (omega arith) (omega (arith, number-left k (length ns) (isGap (get_or w i 0)) t))
+    pub filling-number : due i k ≡ true → WroteWithin 10 o' o'' next r (in_gap (get_or w i 0) (get_or ns k 0)) → Filling o o'' at r (i + 1) (k + 1)
+    filling-number t X = filling-more _ F X (at_gap i k h t) (omega arith) (omega (arith, number-left k (length ns) (is_gap (get_or w i 0)) t))
 
     pub filling-byte : due i k ≡ false → WroteWithin 1 o' o'' next r (get_or w i 0 ∷ []) → Filling o o'' at r (i + 1) k
     filling-byte f X = filling-more _ F X (no_gap i k h f) (omega arith) F.few

@@ -16,8 +16,8 @@ use lib.ListN.{length}
 use borrow.Author.Tests.{lt-ltb, le-ltb, eq-eqb, ne_eqb}
 use Rattle.bits.specs.Parts.{Wrote}
 use Rattle.bits.proofs.Parts.{length-splice, wrote_none, wrote_then}
-use Rattle.text.specs.Text.{some, row, byteIf, orDash}
-use Rattle.text.specs.inner.Within.{WroteWithin}
+use Rattle.text.specs.Text.{some, row, byte_if, or_dash}
+use Rattle.text.specs.Inner.Within.{WroteWithin}
 
 pub within_of : {o o' : List ℕ} {i r k : ℕ} {xs : List ℕ} → Wrote o o' i r xs → r ≤ i + k → WroteWithin k o o' i r xs
 within_of {o} {o'} {i} {r} {k} {xs} W h = record { wrote = W; within = h; long = ap length W.bytes ∙ length-splice o i xs }
@@ -45,9 +45,9 @@ none-put start at [] e = eq-eqb at start (omega arith)
 none-put start at (b ∷ bs) e = ne_eqb at start (λ i. omega arith)
 
 pub dash-after : {o o' o'' : List ℕ} {start at r k : ℕ} {xs : List ℕ} → WroteWithin k o o' start at xs
-    → WroteWithin 1 o' o'' at r (byteIf (eqb at start) (code "-")) → WroteWithin (k + 1) o o'' start r (orDash xs)
+    → WroteWithin 1 o' o'' at r (byte_if (eqb at start) (code "-")) → WroteWithin (k + 1) o o'' start r (or_dash xs)
 dash-after {start = start} {at = at} {xs = xs} W X =
-    W then within-as (ap (λ (t : Bool). byteIf t (code "-")) (none-put start at xs W.wrote.next)) X
+    W then within-as (ap (λ (t : Bool). byte_if t (code "-")) (none-put start at xs W.wrote.next)) X
 
 -- one text more in a row, where k bytes are enough for each
 pub row_more : {o o' o'' : List ℕ} {at r r' k : ℕ} (i : ℕ) (f : ℕ → Bool → List ℕ) → WroteWithin (k * i) o o' at r (row i f)

@@ -1,3 +1,3 @@
 -- Text in bytes.
 pub mod Text
-pub mod inner
+pub mod Inner

@@ -11,35 +11,35 @@ text (c then s) = code c ∷ text s
 
 -- ---- numbers
 -- n in decimal, in as few digits as it has and at most `most` of them
-unfoldable pub digitsBy : ℕ → ℕ → List ℕ
-digitsBy zero n = []
-digitsBy (suc most) n = cond (ltb n 10) ((48 + n) ∷ []) (digitsBy most (n / 10) ++ ((48 + n % 10) ∷ []))
+unfoldable pub digits_by : ℕ → ℕ → List ℕ
+digits_by zero n = []
+digits_by (suc most) n = cond (ltb n 10) ((48 + n) ∷ []) (digits_by most (n / 10) ++ ((48 + n % 10) ∷ []))
 
 -- "Numbers are decimal": no number here has more than ten digits
 unfoldable pub decimal : ℕ → List ℕ
-decimal n = digitsBy 10 n
+decimal n = digits_by 10 n
 
 -- ---- patterns
 -- a pattern has gaps: `#` for a number, and `@` for one that may be nil
-abbrev pub isGap : ℕ → Bool
-isGap b = eqb b (code "#") || eqb b (code "@")
+abbrev pub is_gap : ℕ → Bool
+is_gap b = eqb b (code "#") || eqb b (code "@")
 
 -- "255 is "nil" wherever a station may be missing"
 abbrev pub nil : ℕ
 nil = 255
 
-abbrev pub isNil : ℕ → ℕ → Bool
-isNil b n = eqb b (code "@") && eqb n nil
+abbrev pub is_nil : ℕ → ℕ → Bool
+is_nil b n = eqb b (code "@") && eqb n nil
 
 -- "`-` is nil or none": nil, in a gap where it may stand
-unfoldable pub inGap : ℕ → ℕ → List ℕ
-inGap b n = cond (isNil b n) (text "-") (decimal n)
+unfoldable pub in_gap : ℕ → ℕ → List ℕ
+in_gap b n = cond (is_nil b n) (text "-") (decimal n)
 
 -- a pattern with its gaps filled by the numbers in turn, as long as there are any
 unfoldable pub filled : List ℕ → List ℕ → List ℕ
 filled [] ns = []
 filled (b ∷ pattern) [] = b ∷ pattern
-filled (b ∷ pattern) (n ∷ ns) = cond (isGap b) (inGap b n ++ filled pattern ns) (b ∷ filled pattern (n ∷ ns))
+filled (b ∷ pattern) (n ∷ ns) = cond (is_gap b) (in_gap b n ++ filled pattern ns) (b ∷ filled pattern (n ∷ ns))
 
 -- ---- rows
 -- whether anything stands there
@@ -57,27 +57,27 @@ abbrev pub each : ℕ → (ℕ → List ℕ) → List ℕ
 each n f = row n (λ i before. f i)
 
 -- a byte, if so
-abbrev pub byteIf : Bool → ℕ → List ℕ
-byteIf so b = cond so (b ∷ []) []
+abbrev pub byte_if : Bool → ℕ → List ℕ
+byte_if so b = cond so (b ∷ []) []
 
 -- and "none": a dash after a row in which nothing stands
-abbrev pub orDash : List ℕ → List ℕ
-orDash bs = bs ++ byteIf (not (some bs)) (code "-")
+abbrev pub or_dash : List ℕ → List ℕ
+or_dash bs = bs ++ byte_if (not (some bs)) (code "-")
 
 -- "rise, split by commas": the numbers of a mask of 16 bits
-unfoldable pub maskItem : ℕ → ℕ → Bool → List ℕ
-maskItem m p before = cond (has m p) (byteIf before (code ",") ++ decimal p) []
+unfoldable pub mask_item : ℕ → ℕ → Bool → List ℕ
+mask_item m p before = cond (has m p) (byte_if before (code ",") ++ decimal p) []
 
-abbrev pub maskList : ℕ → List ℕ
-maskList m = row 16 (maskItem m)
+abbrev pub mask_list : ℕ → List ℕ
+mask_list m = row 16 (mask_item m)
 
 -- ---- "in lower-case hex"
 -- one of 0123456789abcdef
-unfoldable pub hexDigit : ℕ → ℕ
-hexDigit n = cond (ltb n 10) (48 + n) (87 + n)
+unfoldable pub hex_digit : ℕ → ℕ
+hex_digit n = cond (ltb n 10) (48 + n) (87 + n)
 
-unfoldable pub hexByte : ℕ → List ℕ
-hexByte b = hexDigit (b / 16) ∷ hexDigit (b % 16) ∷ []
+unfoldable pub hex_byte : ℕ → List ℕ
+hex_byte b = hex_digit (b / 16) ∷ hex_digit (b % 16) ∷ []
 
 unfoldable pub hex : List ℕ → List ℕ
-hex w = each (length w) (λ i. hexByte (get_or w i 0))
+hex w = each (length w) (λ i. hex_byte (get_or w i 0))

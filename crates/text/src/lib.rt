@@ -1,7 +1,9 @@
 // Text put into a lent buffer. Each function answers the place after what it put.
+#![tactic(auto)]
+
 ghost use Rattle.std.specs.Prelude.{◌≡◌, ◌&&◌, [], ◌∷◌, ◌+◌, ◌*◌, ◌^◌, ◌≤◌, ◌<◌, ltb, length};
-ghost use Rattle.text.specs.Text.{digitsBy, decimal, isGap, isNil, inGap, filled, byteIf, orDash, maskItem, maskList, hexDigit, hexByte, hex};
-ghost use Rattle.text.specs.inner.Within.{WroteWithin};
+ghost use Rattle.text.specs.Text.{digits_by, decimal, is_gap, is_nil, in_gap, filled, byte_if, or_dash, mask_item, mask_list, hex_digit, hex_byte, hex};
+ghost use Rattle.text.specs.Inner.Within.{WroteWithin};
 
 // One byte.
 pub fn put_byte(out: &mut [u8], at: usize, b: u8) -> usize
@@ -15,7 +17,7 @@ pub fn put_byte(out: &mut [u8], at: usize, b: u8) -> usize
 // The byte b, if so.
 fn put_byte_if(out: &mut [u8], at: usize, so: bool, b: u8) -> usize
     requires { at < length out.old }
-    ensures { WroteWithin 1 out.old out.new at result (byteIf so b) }
+    ensures { WroteWithin 1 out.old out.new at result (byte_if so b) }
 {
     if so { put_byte(out, at, b) } else { at }
 }
@@ -23,7 +25,7 @@ fn put_byte_if(out: &mut [u8], at: usize, so: bool, b: u8) -> usize
 // n in decimal, in at most `most` digits.
 fn put_digits(out: &mut [u8], at: usize, n: u32, most: u8) -> usize
     requires { (n < 10 ^ most) × (0 < most) × (at + most ≤ length out.old) }
-    ensures { WroteWithin most out.old out.new at result (digitsBy most n) }
+    ensures { WroteWithin most out.old out.new at result (digits_by most n) }
 {
     if n < 10 {
         return put_byte(out, at, 48 + n as u8);
@@ -42,14 +44,14 @@ fn put_number(out: &mut [u8], at: usize, n: u32) -> usize
 
 // Whether the byte b of a pattern is a gap, and one of n numbers is left for it after k.
 fn is_gap(b: u8, k: usize, n: usize) -> bool
-    ensures { result ≡ (ltb k n && isGap b) }
+    ensures { result ≡ (ltb k n && is_gap b) }
 {
     (k < n) & ((b == b'#') | (b == b'@'))
 }
 
 // Whether n is nil, in a gap b where it may be.
 fn is_nil(b: u8, n: u32) -> bool
-    ensures { result ≡ isNil b n }
+    ensures { result ≡ is_nil b n }
 {
     (b == b'@') & (n == 255)
 }
@@ -57,7 +59,7 @@ fn is_nil(b: u8, n: u32) -> bool
 // n in the gap b.
 fn put_in_gap(out: &mut [u8], at: usize, b: u8, n: u32) -> usize
     requires { at + 10 ≤ length out.old }
-    ensures { WroteWithin 10 out.old out.new at result (inGap b n) }
+    ensures { WroteWithin 10 out.old out.new at result (in_gap b n) }
 {
     if is_nil(b, n) {
         put_byte(out, at, b'-')
@@ -101,7 +103,7 @@ pub fn put_filled_one(out: &mut [u8], at: usize, pattern: &[u8], n: u32) -> usiz
 // The number p, if the mask has it, in a list that begins at `start`.
 fn put_mask_item(out: &mut [u8], start: usize, at: usize, m: u16, p: u8) -> usize
     requires { at + 11 ≤ length out.old }
-    ensures { WroteWithin 11 out.old out.new at result (maskItem m p (ltb start at)) }
+    ensures { WroteWithin 11 out.old out.new at result (mask_item m p (ltb start at)) }
 {
     if bits::mask::has(m, p) {
         let next = put_byte_if(out, at, start < at, b',');
@@ -114,7 +116,7 @@ fn put_mask_item(out: &mut [u8], start: usize, at: usize, m: u16, p: u8) -> usiz
 // The numbers of a mask, or a dash if it has none.
 pub fn put_mask_or_dash(out: &mut [u8], at: usize, m: u16) -> usize
     requires { at + 177 ≤ length out.old }
-    ensures { WroteWithin 177 out.old out.new at result (orDash (maskList m)) }
+    ensures { WroteWithin 177 out.old out.new at result (or_dash (mask_list m)) }
 {
     let mut next = at;
     let mut p: u8 = 0;
@@ -127,7 +129,7 @@ pub fn put_mask_or_dash(out: &mut [u8], at: usize, m: u16) -> usize
 
 fn hex_digit(n: u8) -> u8
     requires { n < 16 }
-    ensures { result ≡ hexDigit n }
+    ensures { result ≡ hex_digit n }
 {
     if n < 10 { 48 + n } else { 87 + n }
 }
@@ -135,7 +137,7 @@ fn hex_digit(n: u8) -> u8
 // A byte as two hexadecimal digits.
 fn put_hex_byte(out: &mut [u8], at: usize, b: u8) -> usize
     requires { at + 2 ≤ length out.old }
-    ensures { WroteWithin 2 out.old out.new at result (hexByte b) }
+    ensures { WroteWithin 2 out.old out.new at result (hex_byte b) }
 {
     out[at] = hex_digit(b / 16);
     out[at + 1] = hex_digit(b % 16);

@@ -1,6 +1,6 @@
 -- Who is on the tree, and the reach list.
 --     chain-short       an agreed chain to the root has fewer hops than there are stations
---     on-tree           the test `onTree` decides whether a station is on the tree
+--     on-tree           the test `on_tree` decides whether a station is on the tree
 --     reach-once        the reach list holds a station on the tree once
 --     reach-never       and no other
 --     reach-at-most     so that it has at most n lines
@@ -18,14 +18,14 @@ use Rattle.bits.specs.Sums.{bit, over}
 use Rattle.bits.proofs.Sums.{over-ext, over-le, over-strict}
 use Rattle.bits.proofs.Cases.{and_l, and_r, and_both, by-or, or_r, is_false, clash}
 use Rattle.tree.specs.declared.Reach.{Reach}
-use Rattle.tree.specs.Tree.{Tree, agreed, Chain, OnTree, climbs, onTree, Rooted}
+use Rattle.tree.specs.Tree.{Tree, agreed, Chain, OnTree, climbs, on_tree, Rooted}
 use Rattle.tree.specs.Tree.Chain.{here, hop}
-use Rattle.tree.specs.Reach.{visit, reach, stationsIn, count}
+use Rattle.tree.specs.Reach.{visit, reach, stations_in, count}
 use Rattle.tree.proofs.Sums.{length-count, one-le, one-mono}
 use Rattle.tree.proofs.Counts.{reach-count}
 
-length-stations : (l : List Reach) → length (stationsIn l) ≡ length l
-unfolding stationsIn
+length-stations : (l : List Reach) → length (stations_in l) ≡ length l
+unfolding stations_in
 length-stations [] = refl
 length-stations (x ∷ l) = ap suc (length-stations l)
 
@@ -89,8 +89,8 @@ module _ (t : Tree) (w : Rooted t) where
       let m = many c in
       omega (arith, over-le (λ y. bit (climbs t (suc k) y)) (λ y. one-le (climbs t (suc k) y)) 0 t.stations)
 
-  pub on-tree : (x : ℕ) → OnTree t x ↔ (onTree t x ≡ true)
-  unfolding onTree
+  pub on-tree : (x : ℕ) → OnTree t x ↔ (on_tree t x ≡ true)
+  unfolding on_tree
   on-tree x = (
     λ o. let lt = chain-short o.chain in
         let e : t.stations - suc o.hops + suc o.hops ≡ t.stations = omega arith in
@@ -105,15 +105,15 @@ module _ (t : Tree) (w : Rooted t) where
   pub visit-length : (d e : ℕ) → length (visit t d e t.root) ≡ over (λ x. bit (climbs t d x)) 0 t.stations
   visit-length d e =
       sym (length-stations (visit t d e t.root))
-      ∙ length-count t.stations (stationsIn (visit t d e t.root)) (λ x le. reach-count t w d e x ∙ ap bit (off-tree d x le))
+      ∙ length-count t.stations (stations_in (visit t d e t.root)) (λ x le. reach-count t w d e x ∙ ap bit (off-tree d x le))
       ∙ over-ext _ _ (λ x. reach-count t w d e x) 0 t.stations
 
-  pub reach-once : (x : ℕ) → OnTree t x → count x (stationsIn (reach t)) ≡ 1
-  unfolding reach onTree
+  pub reach-once : (x : ℕ) → OnTree t x → count x (stations_in (reach t)) ≡ 1
+  unfolding reach on_tree
   reach-once x o = reach-count t w t.stations 0 x ∙ ap bit ((on-tree x).0 o)
 
-  pub reach-never : (x : ℕ) → (OnTree t x → ⊥) → count x (stationsIn (reach t)) ≡ 0
-  unfolding reach onTree
+  pub reach-never : (x : ℕ) → (OnTree t x → ⊥) → count x (stations_in (reach t)) ≡ 0
+  unfolding reach on_tree
   reach-never x off = reach-count t w t.stations 0 x ∙ ap bit (is_false (climbs t t.stations x) (λ e. off ((on-tree x).1 e)))
 
   pub reach-at-most : length (reach t) ≤ t.stations

@@ -14,7 +14,7 @@ use Rattle.bits.proofs.Sums.{over-ext, over_zero, over_add}
 use Rattle.bits.proofs.Cases.{by_bool, by-eq, and_r, is_false}
 use Rattle.tree.specs.declared.Reach.{Reach}
 use Rattle.tree.specs.Tree.{Tree, agreed, climbs, Rooted}
-use Rattle.tree.specs.Reach.{picked, visits, visit, stationsIn, count}
+use Rattle.tree.specs.Reach.{picked, visits, visit, stations_in, count}
 use Rattle.tree.proofs.Sums.{gate, total, gate-zero, gate-one, gate-swap, gate-add, gate-gate, over-gate, over-one, total-picked, count-append}
 
 -- the way up from x meets p so often, at its first d stations
@@ -33,17 +33,17 @@ own-agreed t p x = by-eq p (t.parent x)
     (λ n. rw (ne_eqb p (t.parent x) n)
     (rw (is_false (agreed t p x) (λ a. n (sym (agreed-parent t p x a)))) (sym (gate-zero (agreed t (t.parent x) x)))))
 
-stations-append : (a b : List Reach) → stationsIn (a ++ b) ≡ stationsIn a ++ stationsIn b
-unfolding stationsIn
+stations-append : (a b : List Reach) → stations_in (a ++ b) ≡ stations_in a ++ stations_in b
+unfolding stations_in
 stations-append [] b = refl
 stations-append (l ∷ a) b = ap (l.station ∷◌) (stations-append a b)
 
-count-visits : (f : ℕ → List Reach) (g : ℕ → ℕ) (x : ℕ) → ((c : ℕ) → count x (stationsIn (f c)) ≡ g c) → (cs : List ℕ)
-    → count x (stationsIn (visits f cs)) ≡ total g cs
-unfolding visits total stationsIn count
+count-visits : (f : ℕ → List Reach) (g : ℕ → ℕ) (x : ℕ) → ((c : ℕ) → count x (stations_in (f c)) ≡ g c) → (cs : List ℕ)
+    → count x (stations_in (visits f cs)) ≡ total g cs
+unfolding visits total stations_in count
 count-visits f g x e [] = refl
 count-visits f g x e (c ∷ cs) =
-    ap (count x) (stations-append (f c) (visits f cs)) ∙ count-append x (stationsIn (f c)) (stationsIn (visits f cs))
+    ap (count x) (stations-append (f c) (visits f cs)) ∙ count-append x (stations_in (f c)) (stations_in (visits f cs))
     ∙ rw (e c, count-visits f g x e cs)
 
 module _ (t : Tree) (low : (p j : ℕ) → agreed t p j ≡ true → j < t.stations) where
@@ -72,8 +72,8 @@ module _ (t : Tree) (low : (p j : ℕ) → agreed t p j ≡ true → j < t.stati
       both : {a b c e : ℕ} → a ≡ b → c ≡ e → a + c ≡ b + e
       both p q = cc
 
-  visit-count : (d e p x : ℕ) → count x (stationsIn (visit t d e p)) ≡ hits t d p x
-  unfolding visit stationsIn count hits
+  visit-count : (d e p x : ℕ) → count x (stations_in (visit t d e p)) ≡ hits t d p x
+  unfolding visit stations_in count hits
   visit-count zero e p x = refl
   visit-count (suc d) e p x =
       ap (bit (eqb p x) +◌)
@@ -98,5 +98,5 @@ module _ (t : Tree) (w : Rooted t) where
           (λ e. rw (eq-eqb t.root x e) (rw (← e) (rw w.top refl)))
           (λ n. rw (ne_eqb t.root x n) (zero-add _ ∙ both (agreed t (t.parent x) x) (climbs t d (t.parent x)) _ h))
 
-  pub reach-count : (d e x : ℕ) → count x (stationsIn (visit t d e t.root)) ≡ bit (climbs t d x)
+  pub reach-count : (d e x : ℕ) → count x (stations_in (visit t d e t.root)) ≡ bit (climbs t d x)
   reach-count d e x = visit-count t w.low d e t.root x ∙ root-hits d x

@@ -14,10 +14,10 @@ use borrow.Author.Tests.{eqb-true, eq-eqb, ne_eqb}
 use Rattle.bits.specs.Sums.{bit, over}
 use Rattle.bits.proofs.Sums.{over-ext, over_add, over_zero}
 use Rattle.bits.proofs.Cases.{by_bool, by-eq, is_false}
-use Rattle.tree.specs.Tree.{Tree, nil, agreed, Chain, OnTree, climbs, onTree, Rooted}
+use Rattle.tree.specs.Tree.{Tree, nil, agreed, Chain, OnTree, climbs, on_tree, Rooted}
 use Rattle.tree.specs.Tree.Chain.{here, hop}
 use Rattle.tree.specs.Reach.{picked, visits, reach, count}
-use Rattle.tree.specs.Flood.{passesTo, Pass, flood, receivers}
+use Rattle.tree.specs.Flood.{passes_to, Pass, flood, receivers}
 use Rattle.tree.proofs.Sums.{gate, total, gate-zero, gate-add, gate-if, gate-not, over-one, total-picked, count-append, length-count}
 use Rattle.tree.proofs.Counts.{hits, agreed-parent, kids, root-hits}
 use Rattle.tree.proofs.Chains.{chain-low, chain-climbs, not-sooner, grows-by, chain-short, off-tree, visit-length}
@@ -51,11 +51,11 @@ floods t d p x (c ∷ cs) =
     let b = count-append x (receivers (flood t d p c)) (receivers rest) in
     omega arith
 
-step : (t : Tree) (d f p x : ℕ) → calls t (suc d) f p x ≡ bit (eqb p x) + over (λ j. gate (passesTo t f p j) (calls t d p j x)) 0 t.stations
+step : (t : Tree) (d f p x : ℕ) → calls t (suc d) f p x ≡ bit (eqb p x) + over (λ j. gate (passes_to t f p j) (calls t d p j x)) 0 t.stations
 step t d f p x = opened ∙ ap (bit (eqb p x) +◌)
-    (floods t d p x (picked (passesTo t f p) 0 t.stations) ∙ total-picked (λ j. calls t d p j x) (passesTo t f p) 0 t.stations)
+    (floods t d p x (picked (passes_to t f p) 0 t.stations) ∙ total-picked (λ j. calls t d p j x) (passes_to t f p) 0 t.stations)
   where
-    opened : calls t (suc d) f p x ≡ bit (eqb p x) + count x (receivers (visits (passing t d p) (picked (passesTo t f p) 0 t.stations)))
+    opened : calls t (suc d) f p x ≡ bit (eqb p x) + count x (receivers (visits (passing t d p) (picked (passes_to t f p) 0 t.stations)))
     opened = unfold calls flood in refl
 
 -- ---- small facts
@@ -103,8 +103,8 @@ module _ (t : Tree) (w : Rooted t) where
       omega arith
 
   -- ---- down: a station that has the call from its parent passes it to its children
-  down-test : {k : ℕ} (p j : ℕ) → Chain t p k → agreed t (t.parent p) p ≡ true → passesTo t (t.parent p) p j ≡ agreed t p j
-  unfolding passesTo
+  down-test : {k : ℕ} (p j : ℕ) → Chain t p k → agreed t (t.parent p) p ≡ true → passes_to t (t.parent p) p j ≡ agreed t p j
+  unfolding passes_to
   down-test p j c a = by_bool (agreed t p j)
       (λ e. rw (e, ne_eqb j (t.parent p) (apart p j c a e)))
       (λ e. by_bool (agreed t j p)
@@ -133,9 +133,9 @@ module _ (t : Tree) (w : Rooted t) where
   upwards d f p x = gate (agreed t (t.parent p) p && not (eqb (t.parent p) f)) (calls t d p (t.parent p) x)
 
   parted : {k : ℕ} (d f p x : ℕ) → Chain t p k → (j : ℕ)
-      → gate (passesTo t f p j) (calls t d p j x)
+      → gate (passes_to t f p j) (calls t d p j x)
       ≡ gate (agreed t p j && not (eqb j f)) (hits t (suc d) j x) + gate (eqb j (t.parent p)) (upwards d f p x)
-  unfolding passesTo upwards
+  unfolding passes_to upwards
   parted d f p x c j = by_bool (agreed t p j)
       (λ e. rw (no-up e) (rw (e, to-kid d p j x c e) (plus-zero _ 0 refl)))
       (λ e. by-eq j (t.parent p)
@@ -268,8 +268,8 @@ module _ (t : Tree) (w : Rooted t) where
 
     -- ---- the theorems, for any allowance of at least 2 n hops
     module _ (c : ℕ) (o : OnTree t c) (d : ℕ) (enough : t.stations + t.stations ≤ d) where
-      pub flood-reaches : (x : ℕ) → count x (c ∷ receivers (flood t d nil c)) ≡ bit (onTree t x)
-      unfolding count onTree
+      pub flood-reaches : (x : ℕ) → count x (c ∷ receivers (flood t d nil c)) ≡ bit (on_tree t x)
+      unfolding count on_tree
       flood-reaches x =
           let lt = chain-short t w o.chain in
           opened ∙ start d c x o.chain (omega arith) ∙ root-hits t w t.stations x
@@ -278,7 +278,7 @@ module _ (t : Tree) (w : Rooted t) where
           opened = unfold calls in refl
 
       pub flood-copies : suc (length (flood t d nil c)) ≡ length (reach t)
-      unfolding reach onTree
+      unfolding reach on_tree
       flood-copies =
           ap suc (sym (length-receivers (flood t d nil c)))
           ∙ length-count t.stations (c ∷ receivers (flood t d nil c)) (λ x le. flood-reaches x ∙ ap bit (off-tree t w t.stations x le))

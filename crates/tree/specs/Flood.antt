@@ -5,8 +5,8 @@ use Rattle.tree.specs.Tree.{Tree, nil, agreed}
 use Rattle.tree.specs.Reach.{picked, visits}
 
 -- p, which has the call from f, passes it to j: they are agreed neighbours, and j is not f
-unfoldable pub passesTo : Tree → ℕ → ℕ → ℕ → Bool
-passesTo t f p j = (agreed t p j || agreed t j p) && not (eqb j f)
+unfoldable pub passes_to : Tree → ℕ → ℕ → ℕ → Bool
+passes_to t f p j = (agreed t p j || agreed t j p) && not (eqb j f)
 
 -- one passing-on of the call
 pub record Pass : Type 0 where
@@ -18,7 +18,7 @@ pub record Pass : Type 0 where
 unfoldable pub flood : Tree → ℕ → ℕ → ℕ → List Pass
 flood t zero f p = []
 flood t (suc allowance) f p =
-    visits (λ j. record { sender = p; receiver = j } ∷ flood t allowance p j) (picked (passesTo t f p) 0 t.stations)
+    visits (λ j. record { sender = p; receiver = j } ∷ flood t allowance p j) (picked (passes_to t f p) 0 t.stations)
 
 -- the flood of a call from c, who has it from nobody. Fewer than n hops lead up to the root, and fewer than n down from
 -- it, so that an allowance of 2 n is never used up (`flood-reaches` and `flood-copies` hold for every greater one too)

@@ -32,9 +32,9 @@ unfoldable pub reach : Tree → List Reach
 reach t = visit t t.stations 0 t.root
 
 -- the stations of a list, and how often x stands there
-unfoldable pub stationsIn : List Reach → List ℕ
-stationsIn [] = []
-stationsIn (l ∷ ls) = l.station ∷ stationsIn ls
+unfoldable pub stations_in : List Reach → List ℕ
+stations_in [] = []
+stations_in (l ∷ ls) = l.station ∷ stations_in ls
 
 unfoldable pub count : ℕ → List ℕ → ℕ
 count x [] = 0

@@ -31,8 +31,8 @@ unfoldable pub climbs : Tree → ℕ → ℕ → Bool
 climbs t zero x = false
 climbs t (suc d) x = eqb t.root x || (agreed t (t.parent x) x && climbs t d (t.parent x))
 
-unfoldable pub onTree : Tree → ℕ → Bool
-onTree t x = climbs t t.stations x
+unfoldable pub on_tree : Tree → ℕ → Bool
+on_tree t x = climbs t t.stations x
 
 -- what a tree has to be for the theorems: children are stations, and the root is a station with no agreed parent
 pub record Rooted (t : Tree) : Type 0 where

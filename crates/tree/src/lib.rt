@@ -1,4 +1,6 @@
 // One entry of the reach list: a station that a call reaches, its parent (255 for the root), and how deep it stands.
+#![tactic(auto)]
+
 #[derive(Drop)]
 pub struct Reach {
     pub station: u8,

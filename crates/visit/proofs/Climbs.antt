@@ -18,7 +18,7 @@ use Rattle.protocol.specs.Shaped.{Shaped}
 pub past-last : (N : Net) → Shaped N → (g p j : ℕ) → N.stations ≤ p → false ≡ agreed (tree_of N g) p j
 unfolding agreed tree_of
 past-last N H g p j h =
-    let z : (N.entry g p).children ≡ 0 = ap (λ (e : Entry). e.children) (H.noStation g p h) in
+    let z : (N.entry g p).children ≡ 0 = ap (λ (e : Entry). e.children) (H.no_station g p h) in
     rw (z, has-zero j) refl
 
 pub agreed-station : (N : Net) → Shaped N → (g p j : ℕ) → agreed (tree_of N g) p j ≡ true → p < N.stations

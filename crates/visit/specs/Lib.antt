@@ -1,3 +1,3 @@
 -- The reach list in bytes.
 pub mod Lists
-pub mod inner
+pub mod Inner

@@ -2,14 +2,14 @@
 use Rattle.std.specs.Prelude.{Bool, List, [], ◌∷◌, ℕ, eqb, length}
 use Rattle.tree.specs.declared.Reach.{Reach}
 
-unfoldable pub reachBytes : List Reach → List ℕ
-reachBytes [] = []
-reachBytes (x ∷ xs) = x.station ∷ x.parent ∷ x.depth ∷ reachBytes xs
+unfoldable pub reach_bytes : List Reach → List ℕ
+reach_bytes [] = []
+reach_bytes (x ∷ xs) = x.station ∷ x.parent ∷ x.depth ∷ reach_bytes xs
 
 -- "There the reach list is 48 bytes"
-abbrev pub listLength : ℕ
-listLength = 48
+abbrev pub list_length : ℕ
+list_length = 48
 
 -- a list of bytes that is "of the stated size"
-abbrev pub listFits : List ℕ → Bool
-listFits out = eqb (length out) listLength
+abbrev pub list_fits : List ℕ → Bool
+list_fits out = eqb (length out) list_length

@@ -1,14 +1,16 @@
 // The tree of a group, visited over a net's bytes: up from a station to the root, and down from the root to all.
+#![tactic(auto)]
+
 ghost use Rattle.std.specs.Prelude.{◌≡◌, [], ◌∷◌, ◌+◌, ◌≤◌, ◌<◌, length};
 ghost use Rattle.bits.specs.Parts.{splice, Wrote};
-ghost use Rattle.tree.specs.Tree.{agreed, onTree};
+ghost use Rattle.tree.specs.Tree.{agreed, on_tree};
 ghost use Rattle.protocol.specs.Net.{Net};
 ghost use Rattle.protocol.specs.Calls.{tree_of};
 ghost use Rattle.net.specs.View.{view};
-ghost use Rattle.access.specs.inner.Nets.{IsNet};
-ghost use Rattle.visit.specs.inner.Visits.{stationBytes, childrenBytes, MayVisit};
+ghost use Rattle.access.specs.Inner.Nets.{IsNet};
+ghost use Rattle.visit.specs.Inner.Visits.{station_bytes, children_bytes, MayVisit};
 
-// How many bytes the reach list has: `listLength` of specs/Lists.antt.
+// How many bytes the reach list has: `list_length` of specs/Lists.antt.
 pub const LIST_LENGTH: usize = 48;
 
 // Whether p is the parent of j, and lists it.
@@ -30,7 +32,7 @@ fn agree(net: &[u8], g: u8, p: u8, j: u8) -> bool
 pub fn on_tree(net: &[u8], g: u8, c: u8) -> bool
     requires net { IsNet net.now }
     requires g_bound { (g < (view net.now).groups) × (c < (view net.now).stations) }
-    ensures { result ≡ onTree (tree_of (view net.now) g) c }
+    ensures { result ≡ on_tree (tree_of (view net.now) g) c }
 {
     let root = access::read::root_of(net, g);
     let mut x = c;
@@ -70,8 +72,8 @@ pub fn visit_station(
     out: &mut [u8],
     at: usize,
 ) -> usize
-    requires { MayVisit net.now out.old g p depth allowance at (stationBytes (tree_of (view net.now) g) allowance depth p) }
-    ensures { Wrote out.old out.new at result (stationBytes (tree_of (view net.now) g) allowance depth p) }
+    requires { MayVisit net.now out.old g p depth allowance at (station_bytes (tree_of (view net.now) g) allowance depth p) }
+    ensures { Wrote out.old out.new at result (station_bytes (tree_of (view net.now) g) allowance depth p) }
 {
     if allowance == 0 {
         return at;
@@ -92,8 +94,8 @@ fn visit_children(
     out: &mut [u8],
     at: usize,
 ) -> usize
-    requires { (j ≤ (view net.now).stations) × MayVisit net.now out.old g p depth allowance at (childrenBytes (tree_of (view net.now) g) allowance depth p j) }
-    ensures { Wrote out.old out.new at result (childrenBytes (tree_of (view net.now) g) allowance depth p j) }
+    requires { (j ≤ (view net.now).stations) × MayVisit net.now out.old g p depth allowance at (children_bytes (tree_of (view net.now) g) allowance depth p j) }
+    ensures { Wrote out.old out.new at result (children_bytes (tree_of (view net.now) g) allowance depth p j) }
 {
     if j == access::read::stations(net) {
         return at;

@@ -6,16 +6,16 @@ use lib.Dec.{eqb}
 use borrow.Author.Tests.{not-true, not-false}
 use Rattle.bits.specs.Masks.{has, with}
 use Rattle.protocol.specs.declared.Entry.{Entry}
-use Rattle.protocol.specs.Net.{Net, nil, setEntry, send}
-use Rattle.protocol.specs.Entries.{withParents, withWaiting, joins, asking}
+use Rattle.protocol.specs.Net.{Net, nil, set_entry, send}
+use Rattle.protocol.specs.Entries.{with_parents, with_waiting, joins, asking}
 use Rattle.protocol.specs.Rules.{Rule, room?}
 use Rattle.protocol.specs.Rules as rule
 use Rattle.protocol.specs.Shaped.{Shaped}
-use Rattle.protocol.proofs.shape.Actions.{cable, ask-near, ask-entry}
+use Rattle.protocol.proofs.Shape.Actions.{cable, ask-near, ask-entry}
 use Rattle.net.specs.View.{view}
-use Rattle.net.specs.Encode.{bytesLike}
+use Rattle.net.specs.Encode.{bytes_like}
 use Rattle.net.proofs.Forms.{seen}
-use Rattle.access.specs.inner.Nets.{EntryMade}
+use Rattle.access.specs.Inner.Nets.{EntryMade}
 use Rattle.access.proofs.Laws.{own, made_then, made}
 use Rattle.action.proofs.Ends.{ends-3, ends-4, ends-6, ends-0}
 use Rattle.action.proofs.InRange.{route-small}
@@ -103,12 +103,12 @@ room x = sym (has_room x.before) ∙ not-false _ x.if3.false
 
 -- the net once the neighbour is the tentative parent, and waited on, and its bytes
 abbrev asks : tie.Start → Net
-asks s = setEntry (N s) s.args.g s.args.p (asking (had s) (asked s))
+asks s = set_entry (N s) s.args.g s.args.p (asking (had s) (asked s))
 
 shaped : (x : tie.Else2) → Shaped (asks (from x))
 shaped x = let s = from x in ask-entry (N s) (H s) s.args.g s.args.p s.args.c (operands (else1 (route-of (entry-as x)))) (enabled x)
 
-written : (x : tie.After-set-waiting) → let s = from (else2 (else3 (set-tentative x))) in x.set-waiting.new.0 ≡ bytesLike s.args.net.now (asks s)
+written : (x : tie.After-set-waiting) → let s = from (else2 (else3 (set-tentative x))) in x.set-waiting.new.0 ≡ bytes_like s.args.net.now (asks s)
 written x = let t = set-tentative x in
     let y = entry-as (else2 (else3 t)) in
     let z = else1 (route-of y) in
@@ -116,12 +116,12 @@ written x = let t = set-tentative x in
     let a = s.args in
     let q = route (route-of y) in
     let mask = x.before.with.ensures ∙ (λ i. with (y.entry-as.ensures i).waiting (q i)) in
-    let f : Entry → Entry = λ e. withParents e e.parent (route-of y).route-of.result in
-    let h : Entry → Entry = λ e. withWaiting e x.before.with.result in
+    let f : Entry → Entry = λ e. with_parents e e.parent (route-of y).route-of.result in
+    let h : Entry → Entry = λ e. with_waiting e x.before.with.result in
     let both : EntryMade a.m a.net.now x.set-waiting.new.0 a.g a.p (λ e. h (f e)) =
     made_then a.m a.g a.p _ _ _ f h t.set-tentative.ensures x.set-waiting.ensures in
     made _ s.pre.0 a.m a.g a.p _ (λ e. h (f e)) s.pre.1 (in-range z).0 (in-range z).1 both
-    ∙ (λ i. bytesLike a.net.now (setEntry (N s) a.g a.p (withWaiting (withParents (had s) (had s).parent (q i)) (mask i))))
+    ∙ (λ i. bytes_like a.net.now (set_entry (N s) a.g a.p (with_waiting (with_parents (had s) (had s).parent (q i)) (mask i))))
 
 of-station-requires : tie.Need-of-station-requires
 of-station-requires c κs = search rules
@@ -171,7 +171,7 @@ set-tentative-requires c κs = let z = else1 (route-of (entry-as (else2 c.before
 with-requires : tie.Need-with-requires
 with-requires c κs = let x = else2 (else3 c.before.before.before) in
     let s = from x in
-    rw (route (route-of (entry-as x))) (omega (arith, near x, s.pre.0.stationsMost))
+    rw (route (route-of (entry-as x))) (omega (arith, near x, s.pre.0.stations_most))
 
 set-waiting-requires : tie.Need-set-waiting-requires
 set-waiting-requires c κs = let z = else1 (route-of (entry-as (else2 (else3 c.before.before.before.before)))) in
@@ -199,9 +199,9 @@ returns-4 c = let q = c.before.before.before in
     let y = route-of (entry-as z) in
     let s = from z in
     ends-0 _ _ refl refl
-    (record { operands = operands (else1 y); enabled = enabled z; clockRoom = refl; sendRoom = room (else3 (set-tentative x)) })
+    (record { operands = operands (else1 y); enabled = enabled z; clock_room = refl; send_room = room (else3 (set-tentative x)) })
     (sent _ s.args.g s.args.p _ (shaped z) _ (written x) _ _ _ c.before.before.send.ensures
-    ∙ (λ i. bytesLike s.args.net.now (send (asks s) s.args.p (route y i) (q.request-of.ensures i))))
+    ∙ (λ i. bytes_like s.args.net.now (send (asks s) s.args.p (route y i) (q.request-of.ensures i))))
 
 pub ask-spec : {M : Type 1} → statement M
 ask-spec =

@@ -3,13 +3,13 @@ use mathlib.Core.Bool.{true}
 use Prim.Native.Nat.{ℕ, suc, ◌*◌, ◌/◌, ◌≤◌}
 use native.Mathlib.Omega.{arith}
 use lib.ListN.{length, replicate, length-replicate}
-use Rattle.tree.specs.Tree.{Tree, onTree}
+use Rattle.tree.specs.Tree.{Tree, on_tree}
 use Rattle.tree.specs.Reach.{reach}
 use Rattle.tree.specs.Flood.{spread}
-use Rattle.protocol.specs.Net.{nil, mostStations}
-use Rattle.protocol.specs.Calls.{tree_of, reachList}
+use Rattle.protocol.specs.Net.{nil, most_stations}
+use Rattle.protocol.specs.Calls.{tree_of, reach_list}
 use Rattle.net.specs.View.{view}
-use Rattle.visit.specs.Lists.{reachBytes, listLength}
+use Rattle.visit.specs.Lists.{reach_bytes, list_length}
 use Rattle.call.proofs.Lists.{few, root-fit, all-reached, all_listed}
 use Rattle.call.proofs.Ends.{both-in, copies, ends-8, ends-0}
 use borrow.Author.Rules.{rules}
@@ -29,10 +29,10 @@ on-place y = (fill-place y).before.before
 abbrev start : tie.Then1 → tie.Start
 start x = x.before.before.before.before
 
-on : (x : tie.Then1) → onTree (tree_of (view (start x).args.net.now) (start x).args.g) (start x).args.c ≡ true
+on : (x : tie.Then1) → on_tree (tree_of (view (start x).args.net.now) (start x).args.g) (start x).args.c ≡ true
 on x = sym x.before.on-tree.ensures ∙ x.if1.true
 
-clean : (x : tie.After-fill) → x.fill.new.0 ≡ replicate listLength nil
+clean : (x : tie.After-fill) → x.fill.new.0 ≡ replicate list_length nil
 clean x = x.fill.ensures ∙ ap (λ (k : ℕ). replicate k nil) (start x.before.before).requires.1.2
 
 -- who is reached, how many, and in how many copies
@@ -45,12 +45,12 @@ all y = let s = start (on-place y) in
     _ _ _ (clean (fill-place y)) y.visit-station.ensures
 
 listed : (y : tie.After-visit-station) → let a = (start (on-place y)).args in
-    y.visit-station.new.1.1.1.1.1.0 ≡ reachBytes (reachList (view a.net.now) a.g)
+    y.visit-station.new.1.1.1.1.1.0 ≡ reach_bytes (reach_list (view a.net.now) a.g)
 listed y = let s = start (on-place y) in
     all_listed s.args.net.now s.pre.0 s.args.g s.pre.1.0 _ _ (root-place y).root-of.ensures.0 y.before.before.stations.ensures
     _ _ _ (clean (fill-place y)) y.visit-station.ensures
 
-at_most : (y : tie.After-visit-station) → length (reach (t y)) ≤ mostStations
+at_most : (y : tie.After-visit-station) → length (reach (t y)) ≤ most_stations
 at_most y = let s = start (on-place y) in few s.args.net.now s.pre.0 s.args.g s.pre.1.0
 
 one_more : (y : tie.After-visit-station) → suc (length (spread (t y) (start (on-place y)).args.c)) ≡ length (reach (t y))
@@ -73,7 +73,7 @@ visit-station-requires c κs = let r = c.before.before in
     let f = r.before.before.before in
     let s = start f.before.before in
     root-fit s.args.net.now s.pre.0 s.args.g s.pre.1.0 _ _ r.root-of.ensures.0 c.before.stations.ensures _
-    (ap length (clean f) ∙ length-replicate {A = ℕ} listLength nil)
+    (ap length (clean f) ∙ length-replicate {A = ℕ} list_length nil)
 
 cast-reached : tie.Need-overflow-cast-reached
 cast-reached c = omega (arith, all c.before.before, at_most c.before.before)

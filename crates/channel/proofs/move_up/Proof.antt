@@ -2,14 +2,14 @@ use mathlib.Core.Path.{◌≡◌, refl, ap, ◌∙◌}
 use Prim.Native.Nat.{ℕ, ◌≤◌, ◌-◌, ◌+◌, ◌*◌}
 use native.Mathlib.Omega.{arith}
 use lib.ListN.{length}
-use Rattle.layout.specs.Layout.{messageSize}
-use Rattle.channel.specs.inner.Channels.{movedUp}
-use Rattle.channel.proofs.Moved.{upto, length-upto, moved-turn, moved-cleared, length-movedUp}
+use Rattle.layout.specs.Layout.{message_size}
+use Rattle.channel.specs.Inner.Channels.{moved_up}
+use Rattle.channel.proofs.Moved.{upto, length-upto, moved-turn, moved-cleared, length-moved_up}
 use Rattle.channel.proofs.move_up.Statement.{statement}
 use Rattle.channel.proofs.move_up.Tie as tie
 
 abbrev invariant-loop : tie.invariant-loop
-invariant-loop s₀ n last j₀ s j = (j ≤ last) × (s ≡ upto (j * messageSize) (movedUp messageSize s₀) s₀) × (length s ≡ length s₀)
+invariant-loop s₀ n last j₀ s j = (j ≤ last) × (s ≡ upto (j * message_size) (moved_up message_size s₀) s₀) × (length s ≡ length s₀)
 
 abbrev decreases-loop : tie.decreases-loop
 decreases-loop s₀ n last j₀ s j = last - j
@@ -37,11 +37,11 @@ loop-again c =
     let moved = c.before.before in
     let l = moved.before.before.before.loop in
     let d = moved.before.before.before.before.before.args.s.now in
-    let e : moved.move-one.new.0 ≡ upto (l.j * messageSize + messageSize) (movedUp messageSize d) d =
-    moved.move-one.ensures ∙ moved-turn messageSize (l.j * messageSize) d l.s l.invariant.1 (omega arith) in
-    let n : l.j * messageSize + messageSize ≡ (l.j + 1) * messageSize = omega arith in
-    let f : moved.move-one.new.0 ≡ upto ((l.j + 1) * messageSize) (movedUp messageSize d) d = e ∙ ap (λ (i : ℕ). upto i (movedUp messageSize d) d) n in
-    (omega arith, f, ap length f ∙ length-upto ((l.j + 1) * messageSize) (movedUp messageSize d) d (length-movedUp messageSize d (omega arith)))
+    let e : moved.move-one.new.0 ≡ upto (l.j * message_size + message_size) (moved_up message_size d) d =
+    moved.move-one.ensures ∙ moved-turn message_size (l.j * message_size) d l.s l.invariant.1 (omega arith) in
+    let n : l.j * message_size + message_size ≡ (l.j + 1) * message_size = omega arith in
+    let f : moved.move-one.new.0 ≡ upto ((l.j + 1) * message_size) (moved_up message_size d) d = e ∙ ap (λ (i : ℕ). upto i (moved_up message_size d) d) n in
+    (omega arith, f, ap length f ∙ length-upto ((l.j + 1) * message_size) (moved_up message_size d) d (length-moved_up message_size d (omega arith)))
 
 mul_at : tie.Need-overflow-mul-at invariant-loop decreases-loop
 mul_at c = omega arith
@@ -68,10 +68,10 @@ returns : tie.Need-returns invariant-loop decreases-loop
 returns c =
     let l = c.before.before.before.before.before.loop in
     let a = c.before.before.before.before.before.before.before.args in
-    let k = (a.n - 1) * messageSize in
+    let k = (a.n - 1) * message_size in
     let e : l.j ≡ a.n - 1 = omega arith in
-    let moved : l.s ≡ upto k (movedUp messageSize a.s.now) a.s.now = rw e at l.invariant.1 in
-    moved-cleared messageSize k (k + messageSize - k) a.s.now l.s c.before.before.fill.new.0 moved (omega arith) (omega arith) c.before.before.fill.ensures
+    let moved : l.s ≡ upto k (moved_up message_size a.s.now) a.s.now = rw e at l.invariant.1 in
+    moved-cleared message_size k (k + message_size - k) a.s.now l.s c.before.before.fill.new.0 moved (omega arith) (omega arith) c.before.before.fill.ensures
 
 pub move_up_spec : {M : Type 1} → statement M
 move_up_spec =

@@ -7,13 +7,13 @@ use lib.ListN.{take, length}
 use lib.Seq.{take-length}
 use Rattle.bits.specs.Sums.{bit}
 use Rattle.protocol.specs.Entries.{is_of, count_of}
-use Rattle.channel.specs.Messages.{messagesOf}
+use Rattle.channel.specs.Messages.{messages_of}
 use Rattle.channel.proofs.Messages.{length-messages, count_turn, count-take}
 use Rattle.channel.proofs.none_of.Statement.{statement}
 use Rattle.channel.proofs.none_of.Tie as tie
 
 abbrev invariant-loop : tie.invariant-loop
-invariant-loop ch kind group n i₀ i = (i ≤ n) × (count_of kind group (take i (messagesOf ch)) ≡ 0)
+invariant-loop ch kind group n i₀ i = (i ≤ n) × (count_of kind group (take i (messages_of ch)) ≡ 0)
 
 abbrev decreases-loop : tie.decreases-loop
 decreases-loop ch kind group n i₀ i = n - i
@@ -36,11 +36,11 @@ is-of-requires c κs = search rules
 
 -- with this message, the count is 1 or still 0
 found : (x : tie.After-is-of invariant-loop decreases-loop) → let a = x.before.before.before.before.before.before.args in
-    count_of a.kind a.group (take (x.before.before.before.loop.i + 1) (messagesOf a.ch.now)) ≡ bit x.is-of.result
+    count_of a.kind a.group (take (x.before.before.before.loop.i + 1) (messages_of a.ch.now)) ≡ bit x.is-of.result
 found x =
     let a = x.before.before.before.before.before.before.args in
     let l = x.before.before.before.loop in
-    let ms = messagesOf a.ch.now in
+    let ms = messages_of a.ch.now in
     let here : l.i < length ms = rw length-messages (omega arith) in
     let is = ap bit (x.is-of.ensures ∙ ap (is_of a.kind a.group) x.before.message-at.ensures) in
     count_turn a.kind a.group ms l.i here ∙ omega (arith, l.invariant.1, is)
@@ -48,7 +48,7 @@ found x =
 returns : tie.Need-returns invariant-loop decreases-loop
 returns c =
     let a = c.before.before.before.before.before.before.before.args in
-    let ms = messagesOf a.ch.now in
+    let ms = messages_of a.ch.now in
     let one = found c.before ∙ ap bit c.if1.true in
     let le = count-take a.kind a.group (c.before.before.before.before.loop.i + 1) ms in
     sym (ne_eqb (count_of a.kind a.group ms) 0 (λ z. omega (arith, one, le, z)))
@@ -66,7 +66,7 @@ returns-2 : tie.Need-returns-2 invariant-loop decreases-loop
 returns-2 c =
     let s = c.before.before.before.before in
     let l = c.before.loop in
-    let ms = messagesOf s.args.ch.now in
+    let ms = messages_of s.args.ch.now in
     let e : l.i ≡ length ms = rw length-messages (omega arith) in
     let all : take l.i ms ≡ ms = rw (e, take-length) in
     sym (eq-eqb (count_of s.args.kind s.args.group ms) 0 (ap (count_of s.args.kind s.args.group) (sym all) ∙ l.invariant.1))

@@ -2,10 +2,10 @@ use mathlib.Core.Path.{◌∙◌}
 use native.Mathlib.Nat.{add-sub_cancel_left}
 use native.Mathlib.Omega.{arith}
 use Rattle.protocol.specs.Net.{capacity}
-use Rattle.layout.specs.Layout.{messageSize}
-use Rattle.channel.specs.Messages.{messageBytes}
+use Rattle.layout.specs.Layout.{message_size}
+use Rattle.channel.specs.Messages.{message_bytes}
 use Rattle.channel.proofs.Slots.{sent}
-use Rattle.channel.proofs.Messages.{queue, sent-list, length-messageBytes}
+use Rattle.channel.proofs.Messages.{queue, sent-list, length-message_bytes}
 use borrow.Author.Rules.{rules}
 use Rattle.channel.proofs.push.Statement.{statement}
 use Rattle.channel.proofs.push.Tie as tie
@@ -51,7 +51,7 @@ returns c =
     let s = c.before.before.before.before.before.before in
     let b = s.args.ch.now in
     rw (c.before.before.put-message.ensures, add-sub_cancel_left)
-    (sent capacity messageSize b (messageBytes s.args.m) (queue b s.requires.0) (omega arith) (length-messageBytes s.args.m) ∙ sent-list b s.requires.0 s.args.m)
+    (sent capacity message_size b (message_bytes s.args.m) (queue b s.requires.0) (omega arith) (length-message_bytes s.args.m) ∙ sent-list b s.requires.0 s.args.m)
 
 pub push_spec : {M : Type 1} → statement M
 push_spec =

@@ -3,9 +3,9 @@ use native.Mathlib.Omega.{arith}
 use lib.ListN.{length, length-set}
 use Rattle.bits.specs.Parts.{splice}
 use Rattle.bits.proofs.Parts.{length-splice}
-use Rattle.channel.specs.Messages.{messageBytes}
+use Rattle.channel.specs.Messages.{message_bytes}
 use Rattle.channel.proofs.Moved.{sets-whole}
-use Rattle.channel.proofs.Messages.{length-messageBytes}
+use Rattle.channel.proofs.Messages.{length-message_bytes}
 use borrow.Author.Rules.{rules}
 use Rattle.channel.proofs.put_message.Statement.{statement}
 use Rattle.channel.proofs.put_message.Tie as tie
@@ -30,7 +30,7 @@ unfolding splice
 returns c =
     let s = c.before.before.before.before.before in
     let a = s.args in
-    c.before.before.put32.ensures ∙ sets-whole (messageBytes a.m) a.s.now (s.requires ∙ sym (length-messageBytes a.m))
+    c.before.before.put32.ensures ∙ sets-whole (message_bytes a.m) a.s.now (s.requires ∙ sym (length-message_bytes a.m))
 
 pub put-message-spec : {M : Type 1} → statement M
 put-message-spec =

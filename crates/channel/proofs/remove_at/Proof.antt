@@ -1,7 +1,7 @@
 use mathlib.Core.Path.{◌∙◌}
 use native.Mathlib.Omega.{arith}
 use Rattle.protocol.specs.Net.{capacity}
-use Rattle.layout.specs.Layout.{messageSize}
+use Rattle.layout.specs.Layout.{message_size}
 use Rattle.channel.proofs.Slots.{removed}
 use Rattle.channel.proofs.Messages.{queue, removed-list}
 use borrow.Author.Rules.{rules}
@@ -54,7 +54,7 @@ returns : tie.Need-returns
 returns c =
     let s = c.before.before.before.before.before.before in
     let b = s.args.ch.now in
-    removed capacity messageSize s.args.i b c.before.before.move_up.new.0 (queue b s.requires.0) (omega arith) c.before.before.move_up.ensures
+    removed capacity message_size s.args.i b c.before.before.move_up.new.0 (queue b s.requires.0) (omega arith) c.before.before.move_up.ensures
     ∙ removed-list b s.requires.0 s.args.i
 
 pub remove-at-spec : {M : Type 1} → statement M

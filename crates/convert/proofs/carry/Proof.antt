@@ -4,9 +4,9 @@ use native.Mathlib.Omega.{arith}
 use lib.ListN.{length-set}
 use Rattle.bits.specs.Parts.{splice}
 use Rattle.bits.proofs.Fills.{splice-whole}
-use Rattle.protocol.specs.Net.{mostGroups, mostStations}
-use Rattle.forms.specs.Folds.{inRows}
-use Rattle.convert.specs.inner.Carried.{entryCarried, remarked, carried}
+use Rattle.protocol.specs.Net.{most_groups, most_stations}
+use Rattle.forms.specs.Folds.{in_rows}
+use Rattle.convert.specs.Inner.Carried.{entry_carried, remarked, carried}
 use borrow.Author.Rules.{rules}
 use Rattle.convert.proofs.carry.Statement.{statement}
 use Rattle.convert.proofs.carry.Tie as tie
@@ -35,7 +35,7 @@ returns c = let e = c.before.before in
     let s = w.before.before.before.before in
     let a = s.args in
     let whole = w.put.ensures.bytes ∙ splice-whole a.out.now a.net.now (omega (arith, s.requires.0, s.requires.1)) in
-    e.carry-entries.ensures ∙ (λ i. inRows (entryCarried a.net.now a.m a.n) (splice (whole i) 7 (b.mark-byte.ensures i ∷ [])) mostGroups mostStations)
+    e.carry-entries.ensures ∙ (λ i. in_rows (entry_carried a.net.now a.m a.n) (splice (whole i) 7 (b.mark-byte.ensures i ∷ [])) most_groups most_stations)
 
 pub carry-spec : {M : Type 1} → statement M
 carry-spec =

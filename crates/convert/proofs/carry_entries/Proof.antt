@@ -2,21 +2,21 @@ use mathlib.Core.Path.{◌≡◌, refl, ap, ◌∙◌}
 use Prim.Native.Nat.{ℕ, ◌≤◌, ◌-◌}
 use native.Mathlib.Omega.{arith}
 use lib.ListN.{length}
-use Rattle.protocol.specs.Net.{mostGroups, mostStations}
-use Rattle.forms.specs.Folds.{inRows}
+use Rattle.protocol.specs.Net.{most_groups, most_stations}
+use Rattle.forms.specs.Folds.{in_rows}
 use Rattle.forms.proofs.Turns.{rows-turn}
-use Rattle.convert.specs.inner.Carried.{entryCarried}
+use Rattle.convert.specs.Inner.Carried.{entry_carried}
 use Rattle.convert.proofs.carry_entries.Statement.{statement}
 use Rattle.convert.proofs.carry_entries.Tie as tie
 
 abbrev invariant-loop : tie.invariant-loop
-invariant-loop net m out₀ n g₀ out g = (g ≤ mostGroups) × (out ≡ inRows (entryCarried net m n) out₀ g mostStations) × (length out ≡ length out₀)
+invariant-loop net m out₀ n g₀ out g = (g ≤ most_groups) × (out ≡ in_rows (entry_carried net m n) out₀ g most_stations) × (length out ≡ length out₀)
 
 abbrev decreases-loop : tie.decreases-loop
-decreases-loop net m out₀ n g₀ out g = mostGroups - g
+decreases-loop net m out₀ n g₀ out g = most_groups - g
 
 loop-holds : tie.Need-loop-init invariant-loop decreases-loop
-unfolding inRows
+unfolding in_rows
 loop-holds c = (omega arith, refl, refl)
 
 carry-group-requires : tie.Need-carry-group-requires invariant-loop decreases-loop
@@ -32,7 +32,7 @@ loop-again : tie.Need-loop-preserved invariant-loop decreases-loop
 loop-again c = let x = c.before.before.before.before.before in
     let a = x.before.before.before.args in
     let put = c.before.before.carry-group.ensures in
-    (omega arith, rows-turn (entryCarried a.net.now a.m a.n) _ x.loop.out _ x.loop.g mostStations x.loop.invariant.1 put, omega arith)
+    (omega arith, rows-turn (entry_carried a.net.now a.m a.n) _ x.loop.out _ x.loop.g most_stations x.loop.invariant.1 put, omega arith)
 
 same_length : tie.Need-same-length invariant-loop decreases-loop
 same_length c = omega arith
@@ -40,8 +40,8 @@ same_length c = omega arith
 returns : tie.Need-returns invariant-loop decreases-loop
 returns c = let x = c.before in
     let a = x.before.before.before.args in
-    let all : x.loop.g ≡ mostGroups = omega arith in
-    x.loop.invariant.1 ∙ ap (λ (k : ℕ). inRows (entryCarried a.net.now a.m a.n) a.out.now k mostStations) all
+    let all : x.loop.g ≡ most_groups = omega arith in
+    x.loop.invariant.1 ∙ ap (λ (k : ℕ). in_rows (entry_carried a.net.now a.m a.n) a.out.now k most_stations) all
 
 pub carry-entries-spec : {M : Type 1} → statement M
 carry-entries-spec =

@@ -4,8 +4,8 @@ use native.Mathlib.Nat.{add-sub_cancel_left}
 use native.Mathlib.Omega.{arith}
 use Rattle.bits.specs.Parts.{part, splice}
 use Rattle.bits.proofs.Parts.{lent, part-lent}
-use Rattle.layout.specs.Marks.{entryAt}
-use Rattle.convert.specs.inner.Carried.{entryCarried}
+use Rattle.layout.specs.Marks.{entry_at}
+use Rattle.convert.specs.Inner.Carried.{entry_carried}
 use borrow.Author.Rules.{rules}
 use Rattle.convert.proofs.carry_entry.Statement.{statement}
 use Rattle.convert.proofs.carry_entry.Tie as tie
@@ -35,14 +35,14 @@ same_length : tie.Need-same-length
 same_length c = search rules
 
 returns : tie.Need-returns
-unfolding entryCarried
+unfolding entry_carried
 returns c = let w = c.before.before in
     let b = w.before.before in
     let f = b.before.before in
     let s = f.before.before.before in
     let a = f.entry_at.result in
     let l = s.args.net.now in
-    let taken : lent a (a + 12 - a) l ≡ part 12 l (entryAt s.args.m s.args.g s.args.p) =
+    let taken : lent a (a + 12 - a) l ≡ part 12 l (entry_at s.args.m s.args.g s.args.p) =
     rw add-sub_cancel_left (part-lent 12 l a (omega (arith, f.entry_at.ensures.1, s.requires.0)) ∙ ap (part 12 l) f.entry_at.ensures.0) in
     w.put.ensures.bytes ∙ (λ i. splice s.args.out.now (b.entry-at2.ensures.0 i) (taken i))
 

@@ -2,18 +2,18 @@ use mathlib.Core.Path.{◌≡◌, refl, ap, ◌∙◌}
 use Prim.Native.Nat.{◌≤◌, ◌-◌}
 use native.Mathlib.Omega.{arith}
 use lib.ListN.{length}
-use Rattle.protocol.specs.Net.{mostStations}
+use Rattle.protocol.specs.Net.{most_stations}
 use Rattle.forms.specs.Folds.{in_row}
 use Rattle.forms.proofs.Turns.{row-turn}
-use Rattle.convert.specs.inner.Carried.{entryCarried}
+use Rattle.convert.specs.Inner.Carried.{entry_carried}
 use Rattle.convert.proofs.carry_group.Statement.{statement}
 use Rattle.convert.proofs.carry_group.Tie as tie
 
 abbrev invariant-loop : tie.invariant-loop
-invariant-loop net m out₀ n g p₀ out p = (p ≤ mostStations) × (out ≡ in_row (entryCarried net m n) out₀ g p) × (length out ≡ length out₀)
+invariant-loop net m out₀ n g p₀ out p = (p ≤ most_stations) × (out ≡ in_row (entry_carried net m n) out₀ g p) × (length out ≡ length out₀)
 
 abbrev decreases-loop : tie.decreases-loop
-decreases-loop net m out₀ n g p₀ out p = mostStations - p
+decreases-loop net m out₀ n g p₀ out p = most_stations - p
 
 loop-holds : tie.Need-loop-init invariant-loop decreases-loop
 unfolding in_row
@@ -32,7 +32,7 @@ loop-again : tie.Need-loop-preserved invariant-loop decreases-loop
 loop-again c = let x = c.before.before.before.before.before in
     let a = x.before.before.before.args in
     let put = c.before.before.carry-entry.ensures in
-    (omega arith, put ∙ row-turn (entryCarried a.net.now a.m a.n) _ x.loop.out a.g x.loop.p x.loop.invariant.1, omega arith)
+    (omega arith, put ∙ row-turn (entry_carried a.net.now a.m a.n) _ x.loop.out a.g x.loop.p x.loop.invariant.1, omega arith)
 
 same_length : tie.Need-same-length invariant-loop decreases-loop
 same_length c = omega arith
@@ -40,8 +40,8 @@ same_length c = omega arith
 returns : tie.Need-returns invariant-loop decreases-loop
 returns c = let x = c.before in
     let a = x.before.before.before.args in
-    let all : x.loop.p ≡ mostStations = omega arith in
-    x.loop.invariant.1 ∙ ap (in_row (entryCarried a.net.now a.m a.n) a.out.now a.g) all
+    let all : x.loop.p ≡ most_stations = omega arith in
+    x.loop.invariant.1 ∙ ap (in_row (entry_carried a.net.now a.m a.n) a.out.now a.g) all
 
 pub carry-group-spec : {M : Type 1} → statement M
 carry-group-spec =

@@ -1,29 +1,29 @@
 use mathlib.Core.Path.{◌≡◌, refl, sym, ◌∙◌}
 use mathlib.Core.Bool.{true}
 use borrow.Author.Tests.{eq-eqb, ne_eqb, not-true, not-false}
-use Rattle.layout.specs.Layout.{netLength}
-use Rattle.shape.specs.Shape.{shapedAs}
+use Rattle.layout.specs.Layout.{net_length}
+use Rattle.shape.specs.Shape.{shaped_as}
 use Rattle.shape.proofs.Nets.{long}
-use Rattle.convert.specs.Converts.{convertOutcome, afterConvert}
+use Rattle.convert.specs.Converts.{convert_outcome, after_convert}
 use Rattle.convert.proofs.Carried.{carried-is}
 use borrow.Author.Rules.{rules}
 use Rattle.convert.proofs.convert.Statement.{statement}
 use Rattle.convert.proofs.convert.Tie as tie
 
 -- past the first test, the net is well shaped
-ok : (x : tie.Else1) → let a = x.before.before.before.before.args in shapedAs a.m a.net.now ≡ true
+ok : (x : tie.Else1) → let a = x.before.before.before.before.args in shaped_as a.m a.net.now ≡ true
 ok x = sym x.before.shaped-as.ensures ∙ not-false _ x.if1.false
 
 shaped-as-requires : tie.Need-shaped-as-requires
 shaped-as-requires c κs = search rules
 
 returns : tie.Need-returns
-unfolding convertOutcome afterConvert
+unfolding convert_outcome after_convert
 returns c = rw (sym c.before.shaped-as.ensures ∙ not-true _ c.if1.true) (refl, refl)
 
 returns-2 : tie.Need-returns-2
-unfolding convertOutcome afterConvert
-returns-2 c = rw (ok c.before, ne_eqb _ netLength c.if2.true) (refl, refl)
+unfolding convert_outcome after_convert
+returns-2 c = rw (ok c.before, ne_eqb _ net_length c.if2.true) (refl, refl)
 
 carry-requires : tie.Need-carry-requires
 carry-requires c κs = (long _ _ (ok c.before.before), c.before.if2.false)
@@ -32,10 +32,10 @@ same_length : tie.Need-same-length
 same_length c = search rules
 
 returns-3 : tie.Need-returns-3
-unfolding convertOutcome afterConvert
+unfolding convert_outcome after_convert
 returns-3 c = let w = c.before.before in
     let s = ok w.before.before.before in
-    rw (s, eq-eqb _ netLength w.before.before.if2.false) (refl, w.carry.ensures ∙ carried-is _ _ _ s)
+    rw (s, eq-eqb _ net_length w.before.before.if2.false) (refl, w.carry.ensures ∙ carried-is _ _ _ s)
 
 pub convert-spec : {M : Type 1} → statement M
 convert-spec =

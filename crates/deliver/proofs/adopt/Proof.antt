@@ -3,11 +3,11 @@ use Prim.Native.Nat.{◌<◌}
 use Rattle.protocol.specs.declared.Entry.{Entry}
 use Rattle.protocol.specs.declared.Message.{Message}
 use Rattle.protocol.specs.Net.{Net}
-use Rattle.protocol.specs.Entries.{withParents, withClock, adopting}
+use Rattle.protocol.specs.Entries.{with_parents, with_clock, adopting}
 use Rattle.protocol.specs.Shaped.{Shaped}
 use Rattle.net.specs.View.{view}
 use Rattle.net.proofs.Forms.{seen}
-use Rattle.access.specs.inner.Nets.{EntryMade}
+use Rattle.access.specs.Inner.Nets.{EntryMade}
 use Rattle.access.proofs.Laws.{own, made_then}
 use Rattle.deliver.proofs.Takes.{sender, receiver}
 use borrow.Author.Rules.{rules}
@@ -43,7 +43,7 @@ returns c = let p = c.before.before in
     let o = k.before.before in
     let a = o.before.before.before.args in
     subst (λ (m : Message). EntryMade a.m a.net.now p.set-parent.new.0 a.g a.d (λ (e : Entry). adopting e a.s m)) o.oldest.ensures
-    (made_then a.m a.g a.d _ _ _ (λ (e : Entry). withClock e o.oldest.result.clock) (λ (e : Entry). withParents e a.s e.tentative) k.set-clock.ensures p.set-parent.ensures)
+    (made_then a.m a.g a.d _ _ _ (λ (e : Entry). with_clock e o.oldest.result.clock) (λ (e : Entry). with_parents e a.s e.tentative) k.set-clock.ensures p.set-parent.ensures)
 
 pub adopt-spec : {M : Type 1} → statement M
 adopt-spec = tie.close (tie.spec oldest-requires set-clock-requires set-parent-requires same_length returns)

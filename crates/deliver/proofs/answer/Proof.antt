@@ -5,15 +5,15 @@ use native.Mathlib.Omega.{arith}
 use lib.ListN.{length}
 use borrow.Author.Tests.{ltb-true}
 use Rattle.protocol.specs.declared.Entry.{Entry}
-use Rattle.protocol.specs.Net.{Net, capacity, setEntry, setChannel, takeAt, send}
-use Rattle.protocol.specs.Entries.{withChild, withChildren, replyOf}
+use Rattle.protocol.specs.Net.{Net, capacity, set_entry, set_channel, take_at, send}
+use Rattle.protocol.specs.Entries.{with_child, with_children, reply_of}
 use Rattle.protocol.specs.Rules.{room?, answered}
 use Rattle.protocol.specs.Shaped.{Shaped}
 use Rattle.layout.specs.Marks.{mark_of}
 use Rattle.net.specs.View.{view}
-use Rattle.net.specs.Encode.{bytesLike}
+use Rattle.net.specs.Encode.{bytes_like}
 use Rattle.net.proofs.Forms.{seen}
-use Rattle.access.specs.inner.Nets.{IsNet}
+use Rattle.access.specs.Inner.Nets.{IsNet}
 use Rattle.access.proofs.Laws.{own, is-net-after, made_after}
 use Rattle.deliver.proofs.Takes.{sender, receiver, grouped, taken, listed, room-kept}
 use borrow.Author.Rules.{rules}
@@ -50,43 +50,43 @@ from x = start (take_at x)
 
 -- the net without the message, and with the sender listed
 abbrev out : tie.Start → Net
-out s = takeAt (N s) s.args.s s.args.d 0
+out s = take_at (N s) s.args.s s.args.d 0
 
 abbrev lists : tie.Start → Net
-lists s = setEntry (out s) s.args.g s.args.d (withChild ((N s).entry s.args.g s.args.d) s.args.s)
+lists s = set_entry (out s) s.args.g s.args.d (with_child ((N s).entry s.args.g s.args.d) s.args.s)
 
 -- the bytes once the message is taken out
 taken_out : (x : tie.After-take-at) → let s = start x in let l = x.take_at.new.0 in
-    (IsNet l) × (view l ≡ out s) × ((M : Net) → bytesLike l M ≡ bytesLike s.args.net.now M) × (mark_of s.args.net.now ≡ mark_of l)
+    (IsNet l) × (view l ≡ out s) × ((M : Net) → bytes_like l M ≡ bytes_like s.args.net.now M) × (mark_of s.args.net.now ≡ mark_of l)
 taken_out x = let s = start x in taken (N s) (H s) s.args.s s.args.d s.pre.1.1.0 _ _ x.take_at.ensures
 
 within : (x : tie.After-take-at) → let s = start x in let l = x.take_at.new.0 in (s.args.g < (view l).groups) × (s.args.d < (view l).stations)
-unfolding takeAt setChannel
+unfolding take_at set_channel
 within x = let s = start x in subst (λ (M : Net). (s.args.g < M.groups) × (s.args.d < M.stations)) (sym (taken_out x).1) (in-groups s, to s)
 
 -- the root, and the receiver's entry, with the sender among its children
 root : (x : tie.After-with-child) → x.before.before.before.root-of.result ≡ (N (from x)).root (from x).args.g
-unfolding takeAt setChannel
+unfolding take_at set_channel
 root x = x.before.before.before.root-of.ensures.0 ∙ ap (λ (M : Net). M.root (from x).args.g) (taken_out (take_at x)).1
 
-entry : (x : tie.After-with-child) → x.with-child.result ≡ withChild ((N (from x)).entry (from x).args.g (from x).args.d) (from x).args.s
-unfolding takeAt setChannel
+entry : (x : tie.After-with-child) → x.with-child.result ≡ with_child ((N (from x)).entry (from x).args.g (from x).args.d) (from x).args.s
+unfolding take_at set_channel
 entry x = let a = (from x).args in
-    x.with-child.ensures ∙ ap (λ (e : Entry). withChild e a.s) (x.before.entry-as.ensures ∙ ap (λ (M : Net). M.entry a.g a.d) (taken_out (take_at x)).1)
+    x.with-child.ensures ∙ ap (λ (e : Entry). with_child e a.s) (x.before.entry-as.ensures ∙ ap (λ (M : Net). M.entry a.g a.d) (taken_out (take_at x)).1)
 
 -- the bytes once the sender is listed
-written : (x : tie.After-set-children) → let s = from (with-child x) in x.set-children.new.0 ≡ bytesLike s.args.net.now (lists s)
-unfolding takeAt setChannel
+written : (x : tie.After-set-children) → let s = from (with-child x) in x.set-children.new.0 ≡ bytes_like s.args.net.now (lists s)
+unfolding take_at set_channel
 written x = let w = with-child x in
     let s = from w in
     let a = s.args in
     let r = s.pre.0 in
-    made_after a.m a.g a.d _ (out s) _ _ (λ (e : Entry). withChildren e w.with-child.result.children) s.pre.1.0 r.stationsMost r.groupsMost (in-groups s) (to s)
+    made_after a.m a.g a.d _ (out s) _ _ (λ (e : Entry). with_children e w.with-child.result.children) s.pre.1.0 r.stations_most r.groups_most (in-groups s) (to s)
     (take_at w).take_at.ensures x.set-children.ensures
-    ∙ (λ i. bytesLike a.net.now (setEntry (out s) a.g a.d (withChildren ((N s).entry a.g a.d) (entry w i).children)))
+    ∙ (λ i. bytes_like a.net.now (set_entry (out s) a.g a.d (with_children ((N s).entry a.g a.d) (entry w i).children)))
 
 after : (x : tie.After-set-children) → let s = from (with-child x) in let l = x.set-children.new.0 in
-    (IsNet l) × (view l ≡ lists s) × ((M : Net) → bytesLike l M ≡ bytesLike s.args.net.now M)
+    (IsNet l) × (view l ≡ lists s) × ((M : Net) → bytes_like l M ≡ bytes_like s.args.net.now M)
 after x = let s = from (with-child x) in
     let w = is-net-after _ (lists s) _ (listed (N s) (H s) s.args.s s.args.d s.pre.1.1.0 s.args.g s.pre.1.1.1.0) (written x) in
     (w.0, w.1, w.2)
@@ -102,7 +102,7 @@ entry-as-requires c κs = let x = c.before.before.before.before.before in
     ((taken_out x).0, ((start x).requires.1.0 ∙ (taken_out x).3, (within x).0, (within x).1))
 
 with-child-requires : tie.Need-with-child-requires
-with-child-requires c κs = let s = start c.before.before.before.before.before.before in omega (arith, from· s, s.pre.0.stationsMost)
+with-child-requires c κs = let s = start c.before.before.before.before.before.before in omega (arith, from· s, s.pre.0.stations_most)
 
 set-children-requires : tie.Need-set-children-requires
 set-children-requires c κs = let x = take_at c.before in own _ (taken_out x).0 _ _ (within x).0 (within x).1
@@ -111,7 +111,7 @@ reply-of-requires : tie.Need-reply-of-requires
 reply-of-requires c κs = search rules
 
 send-requires : tie.Need-send-requires
-unfolding takeAt setChannel setEntry room?
+unfolding take_at set_channel set_entry room?
 send-requires c κs = let x = c.before.before.before.before in
     let s = from (with-child x) in
     let room : room? (out s) s.args.d s.args.s ≡ true = room-kept (N s) (H s) s.args.s s.args.d s.pre.1.1.0 s.pre.1.1.1.1 in
@@ -121,13 +121,13 @@ same_length : tie.Need-same-length
 same_length c = search rules
 
 returns : tie.Need-returns
-unfolding answered takeAt setChannel
+unfolding answered take_at set_channel
 returns c = let replied = c.before.before.before in
     let x = replied.before.before.before.before in
     let w = with-child x in
     let s = from w in
-    let m = replied.reply-of.ensures ∙ (λ i. replyOf s.args.g (root w i) s.args.d (entry w i)) in
-    c.before.before.send.ensures ∙ (after x).2 _ ∙ (λ i. bytesLike s.args.net.now (send ((after x).1 i) s.args.d s.args.s (m i)))
+    let m = replied.reply-of.ensures ∙ (λ i. reply_of s.args.g (root w i) s.args.d (entry w i)) in
+    c.before.before.send.ensures ∙ (after x).2 _ ∙ (λ i. bytes_like s.args.net.now (send ((after x).1 i) s.args.d s.args.s (m i)))
 
 pub answer-spec : {M : Type 1} → statement M
 answer-spec =

@@ -6,13 +6,13 @@ use lib.ListN.{length}
 use borrow.Author.Tests.{not-true, not-false, lt-ltb}
 use Rattle.bits.proofs.Cases.{and_l}
 use Rattle.protocol.specs.declared.Message.{Message}
-use Rattle.protocol.specs.Net.{Net, takeAt, near?}
+use Rattle.protocol.specs.Net.{Net, take_at, near?}
 use Rattle.protocol.specs.Rules.{Rule, oldest, room?, answered, heard, case_at}
 use Rattle.protocol.specs.Rules as rule
 use Rattle.net.specs.View.{view}
-use Rattle.net.specs.Encode.{bytesLike}
+use Rattle.net.specs.Encode.{bytes_like}
 use Rattle.action.proofs.Ends.{ends-3, ends-4, ends-6}
-use Rattle.deliver.specs.inner.MayDeliver.{MayDeliver}
+use Rattle.deliver.specs.Inner.MayDeliver.{MayDeliver}
 use Rattle.deliver.proofs.Delivers.{request-ends, reply-ends}
 use borrow.Author.Rules.{rules}
 use Rattle.deliver.proofs.deliver.Statement.{statement}
@@ -107,7 +107,7 @@ returns-4 c = let w = c.before.before.before.before in
     let y = z.before.before in
     let s = y.before.before.before.before.before.before.before in
     request-ends (N s) _ s.args.s s.args.d s.args.c (operands y.before.before.before) (enabled y) (sym (kind z) ∙ w.before.before.before.if3.true) (room w)
-    (c.before.before.answer.ensures ∙ (λ i. bytesLike s.args.net.now (answered (takeAt (N s) s.args.s s.args.d 0) (z.oldest.ensures i).group s.args.s s.args.d)))
+    (c.before.before.answer.ensures ∙ (λ i. bytes_like s.args.net.now (answered (take_at (N s) s.args.s s.args.d 0) (z.oldest.ensures i).group s.args.s s.args.d)))
 
 hear-requires : tie.Need-hear-requires
 hear-requires c κs = let z = c.before.before.before in
@@ -126,7 +126,7 @@ returns-5 c = let hear = c.before.before in
     let s = y.before.before.before.before.before.before.before in
     reply-ends (N s) _ s.args.s s.args.d s.args.c (operands y.before.before.before) (enabled y) (λ i. left.if3.false (kind z ∙ i))
     (hear.hear.ensures.0 ∙ ap (case_at (N s) s.args.s s.args.d) z.oldest.ensures)
-    (hear.hear.ensures.1 ∙ ap (λ (m : Message). bytesLike s.args.net.now (heard (takeAt (N s) s.args.s s.args.d 0) s.args.s s.args.d m)) z.oldest.ensures)
+    (hear.hear.ensures.1 ∙ ap (λ (m : Message). bytes_like s.args.net.now (heard (take_at (N s) s.args.s s.args.d 0) s.args.s s.args.d m)) z.oldest.ensures)
 
 pub deliver-spec : {M : Type 1} → statement M
 deliver-spec =

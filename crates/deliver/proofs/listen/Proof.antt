@@ -6,18 +6,18 @@ use Rattle.bits.specs.Masks.{without}
 use Rattle.protocol.specs.declared.Case.{Case}
 use Rattle.protocol.specs.declared.Case.TheVariants.{Adopted}
 use Rattle.protocol.specs.declared.Entry.{Entry}
-use Rattle.protocol.specs.Net.{Net, station?, near?, setEntry}
-use Rattle.protocol.specs.Cases.{case_of, caseNumber, adopts}
-use Rattle.protocol.specs.Entries.{withWaiting, stopsWaiting, adopting, hearing}
+use Rattle.protocol.specs.Net.{Net, station?, near?, set_entry}
+use Rattle.protocol.specs.Cases.{case_of, case_number, adopts}
+use Rattle.protocol.specs.Entries.{with_waiting, stops_waiting, adopting, hearing}
 use Rattle.protocol.specs.Rules.{oldest, heard, case_at}
 use Rattle.protocol.specs.Shaped.{Shaped}
-use Rattle.protocol.proofs.laws.Maps.{upd2-hit, set-again}
+use Rattle.protocol.proofs.Laws.Maps.{upd2-hit, set-again}
 use Rattle.net.specs.View.{view}
-use Rattle.net.specs.Encode.{bytesLike}
+use Rattle.net.specs.Encode.{bytes_like}
 use Rattle.net.proofs.Forms.{seen}
-use Rattle.access.specs.inner.Nets.{IsNet}
+use Rattle.access.specs.Inner.Nets.{IsNet}
 use Rattle.access.proofs.Laws.{own, is-net-after, made_after, made}
-use Rattle.deliver.specs.inner.MayDeliver.{MayDeliver}
+use Rattle.deliver.specs.Inner.MayDeliver.{MayDeliver}
 use Rattle.deliver.proofs.Takes.{sender, receiver, grouped, waited}
 use borrow.Author.Rules.{rules}
 use Rattle.deliver.proofs.listen.Statement.{statement}
@@ -56,15 +56,15 @@ abbrev had : tie.Start → Entry
 had s = (N s).entry (g s) s.args.d
 
 abbrev waits : tie.Start → Net
-waits s = setEntry (N s) (g s) s.args.d (stopsWaiting (had s) s.args.s)
+waits s = set_entry (N s) (g s) s.args.d (stops_waiting (had s) s.args.s)
 
-written : (x : tie.After-set-waiting) → let s = start (entry-as x) in x.set-waiting.new.0 ≡ bytesLike s.args.net.now (waits s)
+written : (x : tie.After-set-waiting) → let s = start (entry-as x) in x.set-waiting.new.0 ≡ bytes_like s.args.net.now (waits s)
 written x = let y = entry-as x in
     let s = start y in
     let a = s.args in
     let mask = x.before.without.ensures ∙ ap (λ (e : Entry). without e.waiting a.s) y.entry-as.ensures in
-    made _ s.pre.0 a.m (g s) a.d _ (λ (e : Entry). withWaiting e x.before.without.result) s.pre.1.0 (in-groups s) (to s) x.set-waiting.ensures
-    ∙ (λ i. bytesLike a.net.now (setEntry (N s) (g s) a.d (withWaiting (had s) (mask i))))
+    made _ s.pre.0 a.m (g s) a.d _ (λ (e : Entry). with_waiting e x.before.without.result) s.pre.1.0 (in-groups s) (to s) x.set-waiting.ensures
+    ∙ (λ i. bytes_like a.net.now (set_entry (N s) (g s) a.d (with_waiting (had s) (mask i))))
 
 after : (x : tie.After-set-waiting) → let s = start (entry-as x) in let l = x.set-waiting.new.0 in (IsNet l) × (view l ≡ waits s)
 after x = let s = start (entry-as x) in
@@ -78,13 +78,13 @@ told x = let s = from x in
 
 takes : (x : tie.After-is-adopted) → let s = from x in x.is-adopted.result ≡ adopts (had s) s.args.s s.args.reply
 unfolding adopts
-takes x = x.is-adopted.ensures ∙ ap (λ (k : Case). eqb (caseNumber k) (caseNumber Adopted)) (told x)
+takes x = x.is-adopted.ensures ∙ ap (λ (k : Case). eqb (case_number k) (case_number Adopted)) (told x)
 
 entry-as-requires : tie.Need-entry-as-requires
 entry-as-requires c κs = let s = c.before.before in (s.requires.0, (s.requires.1.0, in-groups s, to s))
 
 without-requires : tie.Need-without-requires
-without-requires c κs = let s = start c.before in omega (arith, sender (N s) (H s) s.args.s s.args.d s.pre.1.1.0, s.pre.0.stationsMost)
+without-requires c κs = let s = start c.before in omega (arith, sender (N s) (H s) s.args.s s.args.d s.pre.1.1.0, s.pre.0.stations_most)
 
 set-waiting-requires : tie.Need-set-waiting-requires
 set-waiting-requires c κs = let s = start c.before.before in own _ s.pre.0 _ _ (in-groups s) (to s)
@@ -96,7 +96,7 @@ is-adopted-requires : tie.Need-is-adopted-requires
 is-adopted-requires c κs = search rules
 
 adopt-requires : tie.Need-adopt-requires
-unfolding setEntry near? station?
+unfolding set_entry near? station?
 adopt-requires c κs = let x = set-waiting c.before.before in
     let s = start (entry-as x) in
     let may : MayDeliver (waits s) s.args.s s.args.d = record { between = s.pre.1.1.0.between; some = s.pre.1.1.0.some } in
@@ -106,20 +106,20 @@ same_length : tie.Need-same-length
 same_length c = search rules
 
 returns : tie.Need-returns
-unfolding heard case_at hearing setEntry
+unfolding heard case_at hearing set_entry
 returns c = let z = c.before.before in
     let x = z.before.before.before in
     let y = set-waiting x in
     let s = from x in
     let a = s.args in
-    let e = stopsWaiting (had s) a.s in
+    let e = stops_waiting (had s) a.s in
     let yes· = sym (takes x) ∙ z.before.before.if1.true in
     let there : (waits s).entry (g s) a.d ≡ e = upd2-hit (N s).entry (g s) a.d e in
     let same : oldest (view y.set-waiting.last.0).channel a.s a.d ≡ a.reply = ap (λ (M : Net). oldest M.channel a.s a.d) (after y).1 ∙ sym s.pre.1.1.1 in
     let put = made_after a.m (g s) a.d _ (waits s) _ _ (λ (e : Entry). adopting e a.s (oldest (view y.set-waiting.last.0).channel a.s a.d)) s.pre.1.0
-    s.pre.0.stationsMost s.pre.0.groupsMost (in-groups s) (to s) (written y) z.adopt.ensures
-    ∙ (λ i. bytesLike a.net.now (setEntry (waits s) (g s) a.d (adopting (there i) a.s (same i))))
-    ∙ ap (bytesLike a.net.now) (set-again (N s) (g s) a.d e (adopting e a.s a.reply)) in
+    s.pre.0.stations_most s.pre.0.groups_most (in-groups s) (to s) (written y) z.adopt.ensures
+    ∙ (λ i. bytes_like a.net.now (set_entry (waits s) (g s) a.d (adopting (there i) a.s (same i))))
+    ∙ ap (bytes_like a.net.now) (set-again (N s) (g s) a.d e (adopting e a.s a.reply)) in
     (told x, rw yes· put)
 
 same-length-2 : tie.Need-same-length-2

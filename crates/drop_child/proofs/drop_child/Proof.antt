@@ -5,13 +5,13 @@ use native.Mathlib.Omega.{arith}
 use borrow.Author.Tests.{not-true, not-false}
 use lib.Dec.{eqb}
 use Rattle.protocol.specs.declared.Entry.{Entry}
-use Rattle.protocol.specs.Net.{Net, setEntry}
-use Rattle.protocol.specs.Entries.{withChildren, withoutChild, joins, leave, stayOrLeave}
+use Rattle.protocol.specs.Net.{Net, set_entry}
+use Rattle.protocol.specs.Entries.{with_children, without_child, joins, leave, stay_or_leave}
 use Rattle.protocol.specs.Rules.{Rule}
 use Rattle.protocol.specs.Rules as rule
 use Rattle.net.specs.View.{view}
-use Rattle.net.specs.Encode.{bytesLike}
-use Rattle.access.specs.inner.Nets.{EntryMade}
+use Rattle.net.specs.Encode.{bytes_like}
+use Rattle.access.specs.Inner.Nets.{EntryMade}
 use Rattle.access.proofs.Laws.{own, made_then, made}
 use Rattle.action.proofs.Ends.{ends-3, ends-4, ends-0}
 use borrow.Author.Rules.{rules}
@@ -22,7 +22,7 @@ abbrev N : tie.Start → Net
 N s = view s.args.net.now
 
 abbrev R : tie.Start → Rule Net
-R s = rule.dropChild (N s) s.args.g s.args.p s.args.x
+R s = rule.drop_child (N s) s.args.g s.args.p s.args.x
 
 -- the places, seen from those after them
 abbrev start : tie.Else1 → tie.Start
@@ -39,7 +39,7 @@ without-child x = x.before.before
 
 -- the operands are in range
 operands : (x : tie.Else1) → (R (start x)).operands ≡ true
-unfolding rule.dropChild
+unfolding rule.drop_child
 operands x = sym x.before.of_pair.ensures.0 ∙ not-false _ x.if1.false
 
 in-range : (x : tie.Else1) → let s = start x in (s.args.g < (N s).groups) × (s.args.p < (N s).stations) × (s.args.x < (N s).stations)
@@ -50,10 +50,10 @@ enabled x = sym x.before.may-drop.ensures ∙ not-false _ x.if2.false
 
 -- the entry without the child
 abbrev dropped : tie.Start → Entry
-dropped s = withoutChild ((N s).entry s.args.g s.args.p) s.args.x
+dropped s = without_child ((N s).entry s.args.g s.args.p) s.args.x
 
 entry : (x : tie.After-without-child) → x.without-child.result ≡ dropped (start (else1 (else2 x)))
-entry x = x.without-child.ensures ∙ ap (λ (e : Entry). withoutChild e (start (else1 (else2 x))).args.x) x.before.entry-as.ensures
+entry x = x.without-child.ensures ∙ ap (λ (e : Entry). without_child e (start (else1 (else2 x))).args.x) x.before.entry-as.ensures
 
 of-pair-requires : tie.Need-of-pair-requires
 of-pair-requires c κs = search rules
@@ -62,7 +62,7 @@ same_length : tie.Need-same-length
 same_length c = search rules
 
 returns : tie.Need-returns
-unfolding rule.dropChild
+unfolding rule.drop_child
 returns c = ends-3 _ _ (sym c.before.of_pair.ensures.0 ∙ not-true _ c.if1.true)
 
 may-drop-requires : tie.Need-may-drop-requires
@@ -72,7 +72,7 @@ same-length-2 : tie.Need-same-length-2
 same-length-2 c = search rules
 
 returns-2 : tie.Need-returns-2
-unfolding rule.dropChild
+unfolding rule.drop_child
 returns-2 c = let y = c.before in ends-4 _ _ (operands y.before.before) (sym y.may-drop.ensures ∙ not-true _ c.if2.true)
 
 root-of-requires : tie.Need-root-of-requires
@@ -82,7 +82,7 @@ entry-as-requires : tie.Need-entry-as-requires
 entry-as-requires c κs = let x = else1 c.before.before.before in let s = start x in let w = in-range x in (s.pre.0, (s.pre.1, w.0, w.1))
 
 without-child-requires : tie.Need-without-child-requires
-without-child-requires c κs = let x = else1 c.before.before.before.before in omega (arith, (in-range x).2, (start x).pre.0.stationsMost)
+without-child-requires c κs = let x = else1 c.before.before.before.before in omega (arith, (in-range x).2, (start x).pre.0.stations_most)
 
 set-children-requires : tie.Need-set-children-requires
 set-children-requires c κs = let x = else1 (else2 c.before) in own _ (start x).pre.0 _ _ (in-range x).0 (in-range x).1
@@ -96,7 +96,7 @@ same-length-3 : tie.Need-same-length-3
 same-length-3 c = search rules
 
 returns-3 : tie.Need-returns-3
-unfolding rule.dropChild stayOrLeave
+unfolding rule.drop_child stay_or_leave
 returns-3 c = let z = c.before.before in
     let k = z.before.before.before.before in
     let w = without-child k in
@@ -104,14 +104,14 @@ returns-3 c = let z = c.before.before in
     let s = start x in
     let a = s.args in
     let root = w.before.before.before.root-of in
-    let f : Entry → Entry = λ e. withChildren e w.without-child.result.children in
+    let f : Entry → Entry = λ e. with_children e w.without-child.result.children in
     let h : Entry → Entry = λ e. cond (eqb a.p root.result || joins w.without-child.result) e (leave e) in
     let both : EntryMade a.m a.net.now z.stay-or-leave.new.0 a.g a.p (λ e. h (f e)) =
     made_then a.m a.g a.p _ _ _ f h k.set-children.ensures z.stay-or-leave.ensures in
-    let put : Entry → Entry = λ e. withChildren ((N s).entry a.g a.p) e.children in
-    ends-0 _ _ refl refl (record { operands = operands x; enabled = enabled (else2 w); clockRoom = refl; sendRoom = refl })
+    let put : Entry → Entry = λ e. with_children ((N s).entry a.g a.p) e.children in
+    ends-0 _ _ refl refl (record { operands = operands x; enabled = enabled (else2 w); clock_room = refl; send_room = refl })
     (made _ s.pre.0 a.m a.g a.p _ (λ e. h (f e)) s.pre.1 (in-range x).0 (in-range x).1 both
-    ∙ (λ i. bytesLike a.net.now (setEntry (N s) a.g a.p (cond (eqb a.p (root.ensures.0 i) || joins (entry w i)) (put (entry w i)) (leave (put (entry w i)))))))
+    ∙ (λ i. bytes_like a.net.now (set_entry (N s) a.g a.p (cond (eqb a.p (root.ensures.0 i) || joins (entry w i)) (put (entry w i)) (leave (put (entry w i)))))))
 
 pub drop-child-spec : {M : Type 1} → statement M
 drop-child-spec =

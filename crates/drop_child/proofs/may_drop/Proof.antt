@@ -33,14 +33,14 @@ has-at-requires : tie.Need-has-at-requires
 has-at-requires c κs = search rules
 
 returns : tie.Need-returns
-unfolding rule.dropChild
+unfolding rule.drop_child
 returns c = rw (sym (elsewhere c.before.before) ∙ not-true (tested c.before.before) c.if1.true) refl
 
 quiet-requires : tie.Need-quiet-requires
 quiet-requires c κs = search rules
 
 returns-2 : tie.Need-returns-2
-unfolding rule.dropChild
+unfolding rule.drop_child
 returns-2 c = rw (sym (elsewhere c.before.before.before) ∙ not-false (tested c.before.before.before) c.before.if1.false) c.quiet.ensures
 
 pub may-drop-spec : {M : Type 1} → statement M

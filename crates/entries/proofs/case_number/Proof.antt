@@ -17,19 +17,19 @@ enum-told-4 : tie.Need-enum-told-4
 enum-told-4 c = search rules
 
 returns : tie.Need-returns
-unfolding reply.caseNumber
+unfolding reply.case_number
 returns c = rw c.enum_told.given.1 refl
 
 returns-2 : tie.Need-returns-2
-unfolding reply.caseNumber
+unfolding reply.case_number
 returns-2 c = rw c.enum-told2.given.1 refl
 
 returns-3 : tie.Need-returns-3
-unfolding reply.caseNumber
+unfolding reply.case_number
 returns-3 c = rw c.enum-told3.given.1 refl
 
 returns-4 : tie.Need-returns-4
-unfolding reply.caseNumber
+unfolding reply.case_number
 returns-4 c = rw c.enum-told4.given.1 refl
 
 pub case-number-spec : {M : Type 1} → statement M

@@ -1,7 +1,7 @@
 use mathlib.Core.Path.{sym}
 use Rattle.protocol.specs.declared.Case.TheVariants.{Adopted, NotTentative, Unconnected, NotGreater}
 use Rattle.protocol.specs.Cases.{CaseHolds}
-use Rattle.protocol.proofs.laws.Cases.{case-is}
+use Rattle.protocol.proofs.Laws.Cases.{case-is}
 use Rattle.entries.proofs.case_of.Statement.{statement}
 use Rattle.entries.proofs.case_of.Tie as tie
 

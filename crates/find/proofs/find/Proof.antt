@@ -1,6 +1,6 @@
 use mathlib.Core.Path.{refl, sym, ◌∙◌}
 use Rattle.access.proofs.Laws.{is-net}
-use Rattle.find.specs.Answers.{answer_of, foundIn}
+use Rattle.find.specs.Answers.{answer_of, found_in}
 use borrow.Author.Rules.{rules}
 use Rattle.find.proofs.find.Statement.{statement}
 use Rattle.find.proofs.find.Tie as tie
@@ -12,11 +12,11 @@ find-in-requires : tie.Need-find-in-requires
 find-in-requires c κs = is-net _ _ (sym c.before.shaped.ensures ∙ c.if1.true)
 
 returns : tie.Need-returns
-unfolding foundIn
+unfolding found_in
 returns c = c.find-in.ensures ∙ (rw (sym c.before.before.shaped.ensures ∙ c.before.if1.true) refl)
 
 returns-2 : tie.Need-returns-2
-unfolding foundIn answer_of
+unfolding found_in answer_of
 returns-2 c = rw (sym c.before.shaped.ensures ∙ c.if1.false) refl
 
 pub find_spec : {M : Type 1} → statement M

@@ -3,9 +3,9 @@ use Prim.Native.Nat.{◌+◌, ◌-◌}
 use native.Mathlib.Omega.{arith}
 use Rattle.bits.specs.Parts.{splice}
 use Rattle.bits.proofs.Parts.{back, lent_back}
-use Rattle.net.specs.Encode.{entryBytes}
-use Rattle.net.proofs.Records.{length-entryBytes}
-use Rattle.fresh.specs.inner.Laying.{entryBlank}
+use Rattle.net.specs.Encode.{entry_bytes}
+use Rattle.net.proofs.Records.{length-entry_bytes}
+use Rattle.fresh.specs.Inner.Laying.{entry_blank}
 use borrow.Author.Rules.{rules}
 use Rattle.fresh.proofs.blank_entry.Statement.{statement}
 use Rattle.fresh.proofs.blank_entry.Tie as tie
@@ -41,7 +41,7 @@ same_length : tie.Need-same-length
 same_length c = search rules
 
 returns : tie.Need-returns
-unfolding entryBlank
+unfolding entry_blank
 returns c = let w = c.before.before in
     let b = w.before in
     let k = b.before in
@@ -50,10 +50,10 @@ returns c = let w = c.before.before in
     let l = x.before.before.args.net.now in
     let a = x.stretch-at.result in
     let n = z.stretch-size.result in
-    let e = entryBytes b.blank.result in
+    let e = entry_bytes b.blank.result in
     ap (back a (a + n - a) l) w.write-entry.ensures
-    ∙ lent_back a (a + n - a) l k.in-stretch.result e (omega (arith, length-entryBytes b.blank.result, z.stretch-size.ensures, k.in-stretch.ensures.1))
-    ∙ (λ i. splice l (x.stretch-at.ensures.0 i + k.in-stretch.ensures.0 i) (entryBytes (b.blank.ensures i)))
+    ∙ lent_back a (a + n - a) l k.in-stretch.result e (omega (arith, length-entry_bytes b.blank.result, z.stretch-size.ensures, k.in-stretch.ensures.1))
+    ∙ (λ i. splice l (x.stretch-at.ensures.0 i + k.in-stretch.ensures.0 i) (entry_bytes (b.blank.ensures i)))
 
 pub blank-entry-spec : {M : Type 1} → statement M
 blank-entry-spec =

@@ -2,20 +2,20 @@ use mathlib.Core.Path.{◌≡◌, refl, ap, ◌∙◌}
 use Prim.Native.Nat.{◌≤◌, ◌-◌}
 use native.Mathlib.Omega.{arith}
 use lib.ListN.{length}
-use Rattle.forms.specs.Folds.{inRows}
-use Rattle.fresh.specs.inner.Laying.{entryBlank}
+use Rattle.forms.specs.Folds.{in_rows}
+use Rattle.fresh.specs.Inner.Laying.{entry_blank}
 use Rattle.forms.proofs.Turns.{rows-turn}
 use Rattle.fresh.proofs.entries.Statement.{statement}
 use Rattle.fresh.proofs.entries.Tie as tie
 
 abbrev invariant-loop : tie.invariant-loop
-invariant-loop net₀ groups n g₀ net g = (g ≤ groups) × (net ≡ inRows entryBlank net₀ g n) × (length net ≡ length net₀)
+invariant-loop net₀ groups n g₀ net g = (g ≤ groups) × (net ≡ in_rows entry_blank net₀ g n) × (length net ≡ length net₀)
 
 abbrev decreases-loop : tie.decreases-loop
 decreases-loop net₀ groups n g₀ net g = groups - g
 
 loop-holds : tie.Need-loop-init invariant-loop decreases-loop
-unfolding inRows
+unfolding in_rows
 loop-holds c = (omega arith, refl, refl)
 
 entries-of-requires : tie.Need-entries-of-requires invariant-loop decreases-loop
@@ -29,7 +29,7 @@ loop-less c = omega arith
 
 loop-again : tie.Need-loop-preserved invariant-loop decreases-loop
 loop-again c = let l = c.before.before.before.before.before.loop in
-    (omega arith, rows-turn entryBlank _ l.net _ l.g c.before.before.before.before.before.before.before.args.n l.invariant.1 c.before.before.entries-of.ensures, omega arith)
+    (omega arith, rows-turn entry_blank _ l.net _ l.g c.before.before.before.before.before.before.before.args.n l.invariant.1 c.before.before.entries-of.ensures, omega arith)
 
 same_length : tie.Need-same-length invariant-loop decreases-loop
 same_length c = omega arith
@@ -37,7 +37,7 @@ same_length c = omega arith
 returns : tie.Need-returns invariant-loop decreases-loop
 returns c = let l = c.before.loop in
     let e : l.g ≡ c.before.before.before.args.groups = omega arith in
-    l.invariant.1 ∙ ap (λ k. inRows entryBlank c.before.before.before.args.net.now k c.before.before.before.args.n) e
+    l.invariant.1 ∙ ap (λ k. in_rows entry_blank c.before.before.before.args.net.now k c.before.before.before.args.n) e
 
 pub entries-spec : {M : Type 1} → statement M
 entries-spec =

@@ -3,13 +3,13 @@ use Prim.Native.Nat.{◌≤◌, ◌-◌}
 use native.Mathlib.Omega.{arith}
 use lib.ListN.{length}
 use Rattle.forms.specs.Folds.{in_row}
-use Rattle.fresh.specs.inner.Laying.{entryBlank}
+use Rattle.fresh.specs.Inner.Laying.{entry_blank}
 use Rattle.forms.proofs.Turns.{row-turn}
 use Rattle.fresh.proofs.entries_of.Statement.{statement}
 use Rattle.fresh.proofs.entries_of.Tie as tie
 
 abbrev invariant-loop : tie.invariant-loop
-invariant-loop net₀ g n p₀ net p = (p ≤ n) × (net ≡ in_row entryBlank net₀ g p) × (length net ≡ length net₀)
+invariant-loop net₀ g n p₀ net p = (p ≤ n) × (net ≡ in_row entry_blank net₀ g p) × (length net ≡ length net₀)
 
 abbrev decreases-loop : tie.decreases-loop
 decreases-loop net₀ g n p₀ net p = n - p
@@ -29,7 +29,7 @@ loop-less c = omega arith
 
 loop-again : tie.Need-loop-preserved invariant-loop decreases-loop
 loop-again c = let l = c.before.before.before.before.before.loop in
-    (omega arith, c.before.before.blank-entry.ensures ∙ row-turn entryBlank _ l.net c.before.before.before.before.before.before.before.args.g l.p l.invariant.1, omega arith)
+    (omega arith, c.before.before.blank-entry.ensures ∙ row-turn entry_blank _ l.net c.before.before.before.before.before.before.before.args.g l.p l.invariant.1, omega arith)
 
 same_length : tie.Need-same-length invariant-loop decreases-loop
 same_length c = omega arith
@@ -37,7 +37,7 @@ same_length c = omega arith
 returns : tie.Need-returns invariant-loop decreases-loop
 returns c = let l = c.before.loop in
     let e : l.p ≡ c.before.before.before.args.n = omega arith in
-    l.invariant.1 ∙ ap (in_row entryBlank c.before.before.before.args.net.now c.before.before.before.args.g) e
+    l.invariant.1 ∙ ap (in_row entry_blank c.before.before.before.args.net.now c.before.before.before.args.g) e
 
 pub entries-of-spec : {M : Type 1} → statement M
 entries-of-spec =

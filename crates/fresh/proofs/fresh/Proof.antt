@@ -2,14 +2,14 @@ use mathlib.Core.Path.{refl, sym, ◌∙◌}
 use native.Mathlib.Omega.{arith}
 use borrow.Author.Tests.{eq-eqb, ne_eqb}
 use Rattle.plan.proofs.Plans.{counts, plan-long, plan-passes}
-use Rattle.fresh.specs.Fresh.{freshOutcome, netAfterFresh}
+use Rattle.fresh.specs.Fresh.{fresh_outcome, net_after_fresh}
 use Rattle.fresh.proofs.Laid.{laid-fresh}
 use borrow.Author.Rules.{rules}
 use Rattle.fresh.proofs.fresh.Statement.{statement}
 use Rattle.fresh.proofs.fresh.Tie as tie
 
 returns : tie.Need-returns
-unfolding freshOutcome netAfterFresh
+unfolding fresh_outcome net_after_fresh
 returns c = rw (ne_eqb _ _ c.if1.true) (refl, refl)
 
 plan-shaped-requires : tie.Need-plan-shaped-requires
@@ -24,12 +24,12 @@ same_length : tie.Need-same-length
 same_length c = search rules
 
 returns-2 : tie.Need-returns-2
-unfolding freshOutcome netAfterFresh
+unfolding fresh_outcome net_after_fresh
 returns-2 c = let s = sym c.before.before.before.before.before.plan-shaped.ensures ∙ c.before.before.before.before.if2.true in
     rw (eq-eqb _ 15728 c.before.before.before.before.before.before.if1.false, s) (refl, c.before.before.lay.ensures ∙ laid-fresh _ s)
 
 returns-3 : tie.Need-returns-3
-unfolding freshOutcome netAfterFresh
+unfolding fresh_outcome net_after_fresh
 returns-3 c = rw (eq-eqb _ 15728 c.before.before.if1.false, sym c.before.plan-shaped.ensures ∙ c.if2.false) (refl, refl)
 
 pub fresh-spec : {M : Type 1} → statement M

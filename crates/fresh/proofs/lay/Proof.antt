@@ -4,9 +4,9 @@ use Prim.Native.Nat.{ℕ}
 use lib.ListN.{replicate}
 use Rattle.bits.specs.Numbers.{bytes}
 use Rattle.bits.specs.Parts.{splice}
-use Rattle.layout.specs.Layout.{netLength}
-use Rattle.forms.specs.Folds.{inRows}
-use Rattle.fresh.specs.inner.Laying.{routeNil, entryBlank, planLaid, laid}
+use Rattle.layout.specs.Layout.{net_length}
+use Rattle.forms.specs.Folds.{in_rows}
+use Rattle.fresh.specs.Inner.Laying.{route_nil, entry_blank, plan_laid, laid}
 use borrow.Author.Rules.{rules}
 use Rattle.fresh.proofs.lay.Statement.{statement}
 use Rattle.fresh.proofs.lay.Tie as tie
@@ -46,7 +46,7 @@ same_length c = search rules
 
 -- the fill, the put of the plan, the put of the length, the routes and the entries, one after the other
 returns : tie.Need-returns
-unfolding laid planLaid
+unfolding laid plan_laid
 returns c = let e = c.before.before in
     let r = e.before.before.before.before.before.before in
     let h = r.before.before.before.before in
@@ -57,11 +57,11 @@ returns c = let e = c.before.before in
     let plan = s.args.plan.now in
     let zeros = f.fill.ensures ∙ ap (λ (k : ℕ). replicate k 0) s.requires.3 in
     let put = p.put.ensures.bytes ∙ ap (λ (l : List ℕ). splice l 0 plan) zeros in
-    let front = h.put32.ensures ∙ ap (λ (l : List ℕ). splice l 0 (bytes 4 netLength)) put in
+    let front = h.put32.ensures ∙ ap (λ (l : List ℕ). splice l 0 (bytes 4 net_length)) put in
     let stations = f.before.before.wide.ensures.0 ∙ n.stations.ensures in
-    let routed = r.routes.ensures ∙ (λ i. inRows routeNil (front i) (stations i) (stations i)) in
+    let routed = r.routes.ensures ∙ (λ i. in_rows route_nil (front i) (stations i) (stations i)) in
     let groups = e.before.wide2.ensures.0 ∙ e.before.before.groups.ensures in
-    e.entries.ensures ∙ (λ i. inRows entryBlank (routed i) (groups i) (stations i))
+    e.entries.ensures ∙ (λ i. in_rows entry_blank (routed i) (groups i) (stations i))
 
 pub lay-spec : {M : Type 1} → statement M
 lay-spec =

@@ -4,13 +4,13 @@ use native.Mathlib.Omega.{arith}
 use lib.ListN.{length, set, length-set}
 use Rattle.bits.specs.Parts.{splice}
 use Rattle.forms.specs.Folds.{in_row}
-use Rattle.fresh.specs.inner.Laying.{routeNil}
+use Rattle.fresh.specs.Inner.Laying.{route_nil}
 use Rattle.forms.proofs.Turns.{row-turn}
 use Rattle.fresh.proofs.routes_from.Statement.{statement}
 use Rattle.fresh.proofs.routes_from.Tie as tie
 
 abbrev invariant-loop : tie.invariant-loop
-invariant-loop net₀ p n d₀ net d = (d ≤ n) × (net ≡ in_row routeNil net₀ p d) × (length net ≡ length net₀)
+invariant-loop net₀ p n d₀ net d = (d ≤ n) × (net ≡ in_row route_nil net₀ p d) × (length net ≡ length net₀)
 
 abbrev decreases-loop : tie.decreases-loop
 decreases-loop net₀ p n d₀ net d = n - d
@@ -32,9 +32,9 @@ loop-less : tie.Need-loop-smaller invariant-loop decreases-loop
 loop-less c = omega arith
 
 loop-again : tie.Need-loop-preserved invariant-loop decreases-loop
-unfolding routeNil splice
+unfolding route_nil splice
 loop-again c = let l = c.before.before.loop in
-    (omega arith, ap (λ k. set l.net k 255) c.route-at.ensures.0 ∙ row-turn routeNil _ l.net c.before.before.before.before.args.p l.d l.invariant.1, simp length-set l.invariant.2)
+    (omega arith, ap (λ k. set l.net k 255) c.route-at.ensures.0 ∙ row-turn route_nil _ l.net c.before.before.before.before.args.p l.d l.invariant.1, simp length-set l.invariant.2)
 
 same_length : tie.Need-same-length invariant-loop decreases-loop
 same_length c = omega arith
@@ -42,7 +42,7 @@ same_length c = omega arith
 returns : tie.Need-returns invariant-loop decreases-loop
 returns c = let l = c.before.loop in
     let e : l.d ≡ c.before.before.before.args.n = omega arith in
-    l.invariant.1 ∙ ap (in_row routeNil c.before.before.before.args.net.now c.before.before.before.args.p) e
+    l.invariant.1 ∙ ap (in_row route_nil c.before.before.before.args.net.now c.before.before.before.args.p) e
 
 pub routes-from-spec : {M : Type 1} → statement M
 routes-from-spec =

@@ -5,12 +5,12 @@ use native.Mathlib.Omega.{arith}
 use borrow.Author.Tests.{not-true, not-false}
 use Rattle.bits.specs.Masks.{without}
 use Rattle.protocol.specs.declared.Entry.{Entry}
-use Rattle.protocol.specs.Net.{Net, setEntry}
-use Rattle.protocol.specs.Entries.{withWaiting}
+use Rattle.protocol.specs.Net.{Net, set_entry}
+use Rattle.protocol.specs.Entries.{with_waiting}
 use Rattle.protocol.specs.Rules.{Rule}
 use Rattle.protocol.specs.Rules as rule
 use Rattle.net.specs.View.{view}
-use Rattle.net.specs.Encode.{bytesLike}
+use Rattle.net.specs.Encode.{bytes_like}
 use Rattle.access.proofs.Laws.{own, made}
 use Rattle.action.proofs.Ends.{ends-3, ends-4, ends-0}
 use borrow.Author.Rules.{rules}
@@ -21,7 +21,7 @@ abbrev N : tie.Start → Net
 N s = view s.args.net.now
 
 abbrev R : tie.Start → Rule Net
-R s = rule.giveUp (N s) s.args.g s.args.p s.args.q
+R s = rule.give_up (N s) s.args.g s.args.p s.args.q
 
 -- the places, seen from those after them
 abbrev start : tie.Else1 → tie.Start
@@ -35,7 +35,7 @@ else2 x = x.before.before
 
 -- the operands are in range
 operands : (x : tie.Else1) → (R (start x)).operands ≡ true
-unfolding rule.giveUp
+unfolding rule.give_up
 operands x = sym x.before.of_pair.ensures.0 ∙ not-false _ x.if1.false
 
 in-range : (x : tie.Else1) → let s = start x in (s.args.g < (N s).groups) × (s.args.p < (N s).stations) × (s.args.q < (N s).stations)
@@ -51,7 +51,7 @@ same_length : tie.Need-same-length
 same_length c = search rules
 
 returns : tie.Need-returns
-unfolding rule.giveUp
+unfolding rule.give_up
 returns c = ends-3 _ _ (sym c.before.of_pair.ensures.0 ∙ not-true _ c.if1.true)
 
 may-give-up-requires : tie.Need-may-give-up-requires
@@ -61,14 +61,14 @@ same-length-2 : tie.Need-same-length-2
 same-length-2 c = search rules
 
 returns-2 : tie.Need-returns-2
-unfolding rule.giveUp
+unfolding rule.give_up
 returns-2 c = let y = c.before in ends-4 _ _ (operands y.before.before) (sym y.may-give-up.ensures ∙ not-true _ c.if2.true)
 
 entry-as-requires : tie.Need-entry-as-requires
 entry-as-requires c κs = let x = else1 c.before in let s = start x in let w = in-range x in (s.pre.0, (s.pre.1, w.0, w.1))
 
 without-requires : tie.Need-without-requires
-without-requires c κs = let x = else1 (else2 c.before) in omega (arith, (in-range x).2, (start x).pre.0.stationsMost)
+without-requires c κs = let x = else1 (else2 c.before) in omega (arith, (in-range x).2, (start x).pre.0.stations_most)
 
 set-waiting-requires : tie.Need-set-waiting-requires
 set-waiting-requires c κs = let x = else1 (else2 c.before.before) in own _ (start x).pre.0 _ _ (in-range x).0 (in-range x).1
@@ -77,7 +77,7 @@ same-length-3 : tie.Need-same-length-3
 same-length-3 c = search rules
 
 returns-3 : tie.Need-returns-3
-unfolding rule.giveUp
+unfolding rule.give_up
 returns-3 c = let z = c.before.before in
     let w = z.before in
     let y = w.before.before in
@@ -85,9 +85,9 @@ returns-3 c = let z = c.before.before in
     let s = start x in
     let a = s.args in
     let mask = w.without.ensures ∙ ap (λ (e : Entry). without e.waiting a.q) y.entry-as.ensures in
-    ends-0 _ _ refl refl (record { operands = operands x; enabled = enabled (else2 y); clockRoom = refl; sendRoom = refl })
-    (made _ s.pre.0 a.m a.g a.p _ (λ (e : Entry). withWaiting e w.without.result) s.pre.1 (in-range x).0 (in-range x).1 z.set-waiting.ensures
-    ∙ (λ i. bytesLike a.net.now (setEntry (N s) a.g a.p (withWaiting ((N s).entry a.g a.p) (mask i)))))
+    ends-0 _ _ refl refl (record { operands = operands x; enabled = enabled (else2 y); clock_room = refl; send_room = refl })
+    (made _ s.pre.0 a.m a.g a.p _ (λ (e : Entry). with_waiting e w.without.result) s.pre.1 (in-range x).0 (in-range x).1 z.set-waiting.ensures
+    ∙ (λ i. bytes_like a.net.now (set_entry (N s) a.g a.p (with_waiting ((N s).entry a.g a.p) (mask i)))))
 
 pub give-up-spec : {M : Type 1} → statement M
 give-up-spec =

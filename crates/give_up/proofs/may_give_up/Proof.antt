@@ -21,14 +21,14 @@ has-at-requires : tie.Need-has-at-requires
 has-at-requires c κs = search rules
 
 returns : tie.Need-returns
-unfolding rule.giveUp
+unfolding rule.give_up
 returns c = rw (sym (waits c.before) ∙ not-true _ c.if1.true) refl
 
 quiet-requires : tie.Need-quiet-requires
 quiet-requires c κs = search rules
 
 returns-2 : tie.Need-returns-2
-unfolding rule.giveUp
+unfolding rule.give_up
 returns-2 c = rw (sym (waits c.before.before) ∙ not-false _ c.before.if1.false) c.quiet.ensures
 
 pub may-give-up-spec : {M : Type 1} → statement M

@@ -65,7 +65,7 @@ returns-3 : tie.Need-returns-3
 unfolding rule.lose
 returns-3 c = let z = c.before.before in
     let y = z.before.before.before in
-    ends-0 _ _ refl refl (record { operands = operands y.before.before; enabled = enabled y ∙ lt-ltb _ _ z.before.before.if2.false; clockRoom = refl; sendRoom = refl }) z.take_at.ensures
+    ends-0 _ _ refl refl (record { operands = operands y.before.before; enabled = enabled y ∙ lt-ltb _ _ z.before.before.if2.false; clock_room = refl; send_room = refl }) z.take_at.ensures
 
 pub lose-spec : {M : Type 1} → statement M
 lose-spec =

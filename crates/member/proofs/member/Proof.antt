@@ -4,13 +4,13 @@ use Prim.Native.Nat.{◌<◌}
 use borrow.Author.Tests.{not-true, not-false}
 use lib.Dec.{eqb}
 use Rattle.protocol.specs.declared.Entry.{Entry}
-use Rattle.protocol.specs.Net.{Net, setEntry}
-use Rattle.protocol.specs.Entries.{withMember, joins, leave, stayOrLeave}
+use Rattle.protocol.specs.Net.{Net, set_entry}
+use Rattle.protocol.specs.Entries.{with_member, joins, leave, stay_or_leave}
 use Rattle.protocol.specs.Rules.{Rule}
 use Rattle.protocol.specs.Rules as rule
 use Rattle.net.specs.View.{view}
-use Rattle.net.specs.Encode.{bytesLike}
-use Rattle.access.specs.inner.Nets.{EntryMade}
+use Rattle.net.specs.Encode.{bytes_like}
+use Rattle.access.specs.Inner.Nets.{EntryMade}
 use Rattle.access.proofs.Laws.{own, made_then, made}
 use Rattle.action.proofs.Ends.{ends-3, ends-0}
 use borrow.Author.Rules.{rules}
@@ -42,8 +42,8 @@ in-range : (x : tie.Else1) → let s = start x in (s.args.g < (N s).groups) × (
 in-range x = x.before.of-flag.ensures.1 (not-false _ x.if1.false)
 
 -- the entry with the flag
-entry : (x : tie.After-with-member) → let s = start (else1 x) in x.with-member.result ≡ withMember ((N s).entry s.args.g s.args.p) s.args.v
-entry x = x.with-member.ensures ∙ ap (λ (e : Entry). withMember e (start (else1 x)).args.v) x.before.entry-as.ensures
+entry : (x : tie.After-with-member) → let s = start (else1 x) in x.with-member.result ≡ with_member ((N s).entry s.args.g s.args.p) s.args.v
+entry x = x.with-member.ensures ∙ ap (λ (e : Entry). with_member e (start (else1 x)).args.v) x.before.entry-as.ensures
 
 of-flag-requires : tie.Need-of-flag-requires
 of-flag-requires c κs = search rules
@@ -76,7 +76,7 @@ same-length-2 : tie.Need-same-length-2
 same-length-2 c = search rules
 
 returns-2 : tie.Need-returns-2
-unfolding rule.member stayOrLeave
+unfolding rule.member stay_or_leave
 returns-2 c = let z = c.before.before in
     let k = z.before.before.before.before in
     let w = with-member k in
@@ -84,14 +84,14 @@ returns-2 c = let z = c.before.before in
     let s = start x in
     let a = s.args in
     let root = w.before.before.before.root-of in
-    let f : Entry → Entry = λ e. withMember e a.v in
+    let f : Entry → Entry = λ e. with_member e a.v in
     let h : Entry → Entry = λ e. cond (eqb a.p root.result || joins w.with-member.result) e (leave e) in
     let both : EntryMade a.m a.net.now z.stay-or-leave.new.0 a.g a.p (λ e. h (f e)) =
     made_then a.m a.g a.p _ _ _ f h k.set-member.ensures z.stay-or-leave.ensures in
-    let put = withMember ((N s).entry a.g a.p) a.v in
-    ends-0 _ _ refl refl (record { operands = operands x; enabled = refl; clockRoom = refl; sendRoom = refl })
+    let put = with_member ((N s).entry a.g a.p) a.v in
+    ends-0 _ _ refl refl (record { operands = operands x; enabled = refl; clock_room = refl; send_room = refl })
     (made _ s.pre.0 a.m a.g a.p _ (λ e. h (f e)) s.pre.1 (in-range x).0 (in-range x).1 both
-    ∙ (λ i. bytesLike a.net.now (setEntry (N s) a.g a.p (cond (eqb a.p (root.ensures.0 i) || joins (entry w i)) put (leave put)))))
+    ∙ (λ i. bytes_like a.net.now (set_entry (N s) a.g a.p (cond (eqb a.p (root.ensures.0 i) || joins (entry w i)) put (leave put)))))
 
 pub member-spec : {M : Type 1} → statement M
 member-spec =

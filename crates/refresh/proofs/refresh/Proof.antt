@@ -6,14 +6,14 @@ use lib.Dec.{eqb}
 use borrow.Author.Tests.{not-true, not-false}
 use Rattle.bits.specs.Masks.{has, with}
 use Rattle.protocol.specs.declared.Entry.{Entry}
-use Rattle.protocol.specs.Net.{Net, nil, setEntry, send}
-use Rattle.protocol.specs.Entries.{withWaiting, waitsOn}
+use Rattle.protocol.specs.Net.{Net, nil, set_entry, send}
+use Rattle.protocol.specs.Entries.{with_waiting, waits_on}
 use Rattle.protocol.specs.Rules.{Rule, room?}
 use Rattle.protocol.specs.Rules as rule
 use Rattle.protocol.specs.Shaped.{Shaped}
-use Rattle.protocol.proofs.shape.Actions.{cable, refresh-near, refresh-entry}
+use Rattle.protocol.proofs.Shape.Actions.{cable, refresh-near, refresh-entry}
 use Rattle.net.specs.View.{view}
-use Rattle.net.specs.Encode.{bytesLike}
+use Rattle.net.specs.Encode.{bytes_like}
 use Rattle.net.proofs.Forms.{seen}
 use Rattle.access.proofs.Laws.{own, made}
 use Rattle.action.proofs.Ends.{ends-3, ends-4, ends-6, ends-0}
@@ -87,17 +87,17 @@ room x = sym (has_room x.before) ∙ not-false _ x.if3.false
 
 -- the net once the station waits on its parent, and its bytes
 abbrev waits : tie.Start → Net
-waits s = setEntry (N s) s.args.g s.args.p (waitsOn (had s) (asked s))
+waits s = set_entry (N s) s.args.g s.args.p (waits_on (had s) (asked s))
 
 shaped : (x : tie.Else2) → Shaped (waits (start (else1 (entry-as x))))
 shaped x = let s = start (else1 (entry-as x)) in refresh-entry (N s) (H s) s.args.g s.args.p s.args.c (operands (else1 (entry-as x))) (enabled x)
 
-written : (x : tie.After-set-waiting) → let s = start (else1 (entry-as (else2 (else3 x)))) in x.set-waiting.new.0 ≡ bytesLike s.args.net.now (waits s)
+written : (x : tie.After-set-waiting) → let s = start (else1 (entry-as (else2 (else3 x)))) in x.set-waiting.new.0 ≡ bytes_like s.args.net.now (waits s)
 written x = let y = entry-as (else2 (else3 x)) in
     let s = start (else1 y) in
     let mask = x.before.with.ensures ∙ ap (λ (e : Entry). with e.waiting e.parent) y.entry-as.ensures in
-    made _ s.pre.0 s.args.m s.args.g s.args.p _ (λ (e : Entry). withWaiting e x.before.with.result) s.pre.1 (in-range (else1 y)).0 (in-range (else1 y)).1 x.set-waiting.ensures
-    ∙ (λ i. bytesLike s.args.net.now (setEntry (N s) s.args.g s.args.p (withWaiting (had s) (mask i))))
+    made _ s.pre.0 s.args.m s.args.g s.args.p _ (λ (e : Entry). with_waiting e x.before.with.result) s.pre.1 (in-range (else1 y)).0 (in-range (else1 y)).1 x.set-waiting.ensures
+    ∙ (λ i. bytes_like s.args.net.now (set_entry (N s) s.args.g s.args.p (with_waiting (had s) (mask i))))
 
 of-station-requires : tie.Need-of-station-requires
 of-station-requires c κs = search rules
@@ -139,7 +139,7 @@ with-requires : tie.Need-with-requires
 with-requires c κs = let x = else2 c.before in
     let y = entry-as x in
     let s = start (else1 y) in
-    rw y.entry-as.ensures (omega (arith, near x, s.pre.0.stationsMost))
+    rw y.entry-as.ensures (omega (arith, near x, s.pre.0.stations_most))
 
 set-waiting-requires : tie.Need-set-waiting-requires
 set-waiting-requires c κs = let y = entry-as (else2 c.before.before) in
@@ -166,9 +166,9 @@ returns-4 c = let q = c.before.before.before in
     let y = entry-as z in
     let s = start (else1 y) in
     ends-0 _ _ refl refl
-    (record { operands = operands (else1 y); enabled = enabled z; clockRoom = refl; sendRoom = room (else3 x) })
+    (record { operands = operands (else1 y); enabled = enabled z; clock_room = refl; send_room = room (else3 x) })
     (sent _ s.args.g s.args.p _ (shaped z) _ (written x) _ _ _ c.before.before.send.ensures
-    ∙ (λ i. bytesLike s.args.net.now (send (waits s) s.args.p (y.entry-as.ensures i).parent (q.request-of.ensures i))))
+    ∙ (λ i. bytes_like s.args.net.now (send (waits s) s.args.p (y.entry-as.ensures i).parent (q.request-of.ensures i))))
 
 pub refresh-spec : {M : Type 1} → statement M
 refresh-spec =

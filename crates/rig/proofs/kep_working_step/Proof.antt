@@ -1,5 +1,5 @@
 use mathlib.Core.Path.{ap, ◌∙◌}
-use Rattle.rig.specs.Face.{stepWord}
+use Rattle.rig.specs.Face.{step_word}
 use borrow.Author.Rules.{rules}
 use Rattle.rig.proofs.kep_working_step.Statement.{statement}
 use Rattle.rig.proofs.kep_working_step.Tie as tie
@@ -16,7 +16,7 @@ same_length c = search rules
 returns : tie.Need-returns
 returns c =
     let stepped = c.before.before.before.step-as.ensures in
-    (c.step-word.ensures ∙ ap stepWord stepped.0, stepped.1)
+    (c.step-word.ensures ∙ ap step_word stepped.0, stepped.1)
 
 pub kep-working-step-spec : {M : Type 1} → statement M
 kep-working-step-spec = tie.close (tie.spec step-as-requires step-word-requires same_length returns)

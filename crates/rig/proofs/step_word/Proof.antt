@@ -1,5 +1,5 @@
 use mathlib.Core.Path.{refl}
-use Rattle.rig.specs.Face.{stepWord}
+use Rattle.rig.specs.Face.{step_word}
 use borrow.Author.Rules.{rules}
 use Rattle.rig.proofs.step_word.Statement.{statement}
 use Rattle.rig.proofs.step_word.Tie as tie
@@ -17,7 +17,7 @@ add-result : tie.Need-overflow-add-result
 add-result c = search rules
 
 returns : tie.Need-returns
-unfolding stepWord
+unfolding step_word
 returns c = refl
 
 pub step-word-spec : {M : Type 1} → statement M

@@ -32,7 +32,7 @@ same-length-2 c = search rules
 returns-2 : tie.Need-returns-2
 unfolding rule.route
 returns-2 c = let y = c.before.before in
-    ends-0 _ _ refl refl (record { operands = operands y.before.before; enabled = refl; clockRoom = refl; sendRoom = refl }) y.set-route.ensures
+    ends-0 _ _ refl refl (record { operands = operands y.before.before; enabled = refl; clock_room = refl; send_room = refl }) y.set-route.ensures
 
 pub route-spec : {M : Type 1} → statement M
 route-spec =

@@ -3,10 +3,10 @@ use mathlib.Core.Logic.{◌≢◌}
 use Prim.Native.Nat.{ℕ}
 use borrow.Author.Tests.{eqb-true}
 use borrow.Author.Rules.{rules}
-use Rattle.protocol.specs.Runs.{noTally}
+use Rattle.protocol.specs.Runs.{no_tally}
 use Rattle.run.specs.declared.Answer.{Answer}
-use Rattle.run.specs.Tallies.{tallyFits, tallyBytes}
-use Rattle.run.specs.Runs.{runOutcomeAs}
+use Rattle.run.specs.Tallies.{tally_fits, tally_bytes}
+use Rattle.run.specs.Runs.{run_outcome_as}
 use Rattle.run.proofs.Theorems.{passed, refused-bytes, tally-after, bytes_after}
 use Rattle.run.proofs.run_into_as.Statement.{statement}
 use Rattle.run.proofs.run_into_as.Tie as tie
@@ -20,7 +20,7 @@ ran c = c.before.before.before
 
 -- the outcome that the definition gives to what was lent
 abbrev judged : tie.After-struct-known → ℕ
-judged c = let s = start (ran c) in runOutcomeAs s.args.m s.args.net.now s.args.script.now (tallyFits s.args.tally.now)
+judged c = let s = start (ran c) in run_outcome_as s.args.m s.args.net.now s.args.script.now (tally_fits s.args.tally.now)
 
 told : (c : tie.After-struct-known) → (ran c).run-fitting.result.outcome ≡ judged c
 told c = ap (λ (a : Answer). a.outcome) (ran c).run-fitting.ensures.0
@@ -49,7 +49,7 @@ returns c =
     let at = put.before.before in
     let o = accepted at in
     let said = (ran at.before).run-fitting.ensures in
-    let counts = ap (λ (a : Answer). tallyBytes a.tally) said.0 ∙ ap tallyBytes (tally-after _ _ _ _ o noTally) in
+    let counts = ap (λ (a : Answer). tally_bytes a.tally) said.0 ∙ ap tally_bytes (tally-after _ _ _ _ o no_tally) in
     (told at.before, said.1, put.put.ensures ∙ counts ∙ sym (bytes_after _ _ _ _ o))
 
 same-length-3 : tie.Need-same-length-3

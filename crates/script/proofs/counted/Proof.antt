@@ -4,12 +4,12 @@ use Prim.Native.Nat.{ℕ, ◌+◌}
 use native.Mathlib.Nat.{add-zero}
 use Rattle.protocol.specs.declared.Replies.{Replies}
 use Rattle.protocol.specs.declared.Tally.{Tally}
-use Rattle.protocol.specs.Cases.{caseNumber, no_case}
-use Rattle.protocol.specs.Runs.{case_count, countCase}
+use Rattle.protocol.specs.Cases.{case_number, no_case}
+use Rattle.protocol.specs.Runs.{case_count, count_case}
 use Rattle.action.specs.declared.Answer.{Answer}
 use Rattle.action.specs.declared.Answer.TheVariants.{Changed, Sent, Answered, Heard, Lost}
-use Rattle.action.specs.inner.Ends.{accepted?, trafficOf}
-use Rattle.script.specs.inner.Counts.{counted}
+use Rattle.action.specs.Inner.Ends.{accepted?, traffic_of}
+use Rattle.script.specs.Inner.Counts.{counted}
 use borrow.Author.Rules.{rules}
 use Rattle.script.proofs.counted.Statement.{statement}
 use Rattle.script.proofs.counted.Tie as tie
@@ -17,13 +17,13 @@ use Rattle.script.proofs.counted.Tie as tie
 none : (n : ℕ) → n ≡ n + 0
 none n = sym (add-zero n)
 
-no-case : (r : Replies) → r ≡ countCase r no_case
-unfolding countCase case_count caseNumber
+no-case : (r : Replies) → r ≡ count_case r no_case
+unfolding count_case case_count case_number
 no-case r = refl
 
 -- an accepted step, count by count
-tallied : (t : Tally) (d : Answer) {s e l : ℕ} {q : Replies} → accepted? d ≡ true → s ≡ t.sent + (trafficOf d).sent → e ≡ t.delivered + (trafficOf d).delivered → l ≡ t.lost + (trafficOf d).lost
-    → q ≡ countCase t.replies (trafficOf d).case → record { accepted = t.accepted + 1; refused = t.refused; sent = s; delivered = e; lost = l; replies = q } ≡ counted t d
+tallied : (t : Tally) (d : Answer) {s e l : ℕ} {q : Replies} → accepted? d ≡ true → s ≡ t.sent + (traffic_of d).sent → e ≡ t.delivered + (traffic_of d).delivered → l ≡ t.lost + (traffic_of d).lost
+    → q ≡ count_case t.replies (traffic_of d).case → record { accepted = t.accepted + 1; refused = t.refused; sent = s; delivered = e; lost = l; replies = q } ≡ counted t d
 unfolding counted
 tallied t d a s e l q = rw a (λ i. record { accepted = t.accepted + 1; refused = t.refused; sent = s i; delivered = e i; lost = l i; replies = q i })
 

@@ -1,8 +1,8 @@
 use mathlib.Core.Path.{refl}
 use native.Mathlib.Omega.{arith}
 use Rattle.protocol.specs.declared.Case.TheVariants.{Adopted, NotTentative, Unconnected, NotGreater}
-use Rattle.protocol.specs.Cases.{caseNumber}
-use Rattle.protocol.specs.Runs.{case_count, countCase}
+use Rattle.protocol.specs.Cases.{case_number}
+use Rattle.protocol.specs.Runs.{case_count, count_case}
 use borrow.Author.Rules.{rules}
 use Rattle.script.proofs.counted_case.Statement.{statement}
 use Rattle.script.proofs.counted_case.Tie as tie
@@ -36,19 +36,19 @@ unfolding case_count
 add-r-4 c = omega (arith, c.before.before.before.requires NotGreater)
 
 returns : tie.Need-returns
-unfolding countCase case_count caseNumber
+unfolding count_case case_count case_number
 returns c = rw c.before.enum_told.given.1 refl
 
 returns-2 : tie.Need-returns-2
-unfolding countCase case_count caseNumber
+unfolding count_case case_count case_number
 returns-2 c = rw c.before.enum-told2.given.1 refl
 
 returns-3 : tie.Need-returns-3
-unfolding countCase case_count caseNumber
+unfolding count_case case_count case_number
 returns-3 c = rw c.before.enum-told3.given.1 refl
 
 returns-4 : tie.Need-returns-4
-unfolding countCase case_count caseNumber
+unfolding count_case case_count case_number
 returns-4 c = rw c.before.enum-told4.given.1 refl
 
 pub counted-case-spec : {M : Type 1} → statement M

@@ -7,8 +7,8 @@ use lib.ListN.{length}
 use Rattle.protocol.specs.Runs.{after}
 use Rattle.protocol.specs.Shaped.{Shaped}
 use Rattle.net.specs.View.{view}
-use Rattle.net.specs.Encode.{bytesLike}
-use Rattle.script.specs.inner.Counts.{CountsUpTo}
+use Rattle.net.specs.Encode.{bytes_like}
+use Rattle.script.specs.Inner.Counts.{CountsUpTo}
 use Rattle.script.proofs.CountsUpTo.{few}
 use Rattle.script.proofs.Turns.{after-is-net, turn-net, turn-tally}
 use Rattle.script.proofs.run_in.Statement.{statement}
@@ -18,7 +18,7 @@ use Rattle.net.proofs.Forms.{seen, view-bytes}
 abbrev invariant-loop : tie.invariant-loop
 invariant-loop net₀ m script n tally₀ i₀ net tally i =
     let R = after (view net₀) script i in
-    (i ≤ n) × (net ≡ bytesLike net₀ R.net) × (tally ≡ R.tally) × (length net ≡ length net₀)
+    (i ≤ n) × (net ≡ bytes_like net₀ R.net) × (tally ≡ R.tally) × (length net ≡ length net₀)
 
 abbrev decreases-loop : tie.decreases-loop
 decreases-loop net₀ m script n tally₀ i₀ net tally i = n - i
@@ -122,7 +122,7 @@ returns c =
     let t = c.before in
     let all : t.loop.i ≡ length (script t) / 4 = omega arith in
     let at = after (view (net₀ t)) (script t) in
-    (t.loop.invariant.2 ∙ ap (λ (k : ℕ). (at k).tally) all, t.loop.invariant.1 ∙ ap (λ (k : ℕ). bytesLike (net₀ t) (at k).net) all)
+    (t.loop.invariant.2 ∙ ap (λ (k : ℕ). (at k).tally) all, t.loop.invariant.1 ∙ ap (λ (k : ℕ). bytes_like (net₀ t) (at k).net) all)
 
 pub run-in-spec : {M : Type 1} → statement M
 run-in-spec =

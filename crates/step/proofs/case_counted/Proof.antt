@@ -1,30 +1,30 @@
 use mathlib.Core.Path.{refl}
 use borrow.Author.Tests.{eq-eqb, ne_eqb}
-use Rattle.step.specs.inner.Counted.{caseCounted}
+use Rattle.step.specs.Inner.Counted.{case_counted}
 use Rattle.step.proofs.case_counted.Statement.{statement}
 use Rattle.step.proofs.case_counted.Tie as tie
 
 returns : tie.Need-returns
-unfolding caseCounted
+unfolding case_counted
 returns c = rw (ne_eqb _ 0 c.if1.true) refl
 
 returns-2 : tie.Need-returns-2
-unfolding caseCounted
+unfolding case_counted
 returns-2 c = rw (eq-eqb _ 0 c.before.before.if1.false, ne_eqb _ 0 c.if2.true) refl
 
 returns-3 : tie.Need-returns-3
-unfolding caseCounted
+unfolding case_counted
 returns-3 c = let second = c.before.before in
     rw (eq-eqb _ 0 second.before.before.if1.false, eq-eqb _ 0 second.if2.false, ne_eqb _ 0 c.if3.true) refl
 
 returns-4 : tie.Need-returns-4
-unfolding caseCounted
+unfolding case_counted
 returns-4 c = let third = c.before.before in
     let second = third.before.before in
     rw (eq-eqb _ 0 second.before.before.if1.false, eq-eqb _ 0 second.if2.false, eq-eqb _ 0 third.if3.false, ne_eqb _ 0 c.if4.true) refl
 
 returns-5 : tie.Need-returns-5
-unfolding caseCounted
+unfolding case_counted
 returns-5 c = let third = c.before.before in
     let second = third.before.before in
     rw (eq-eqb _ 0 second.before.before.if1.false, eq-eqb _ 0 second.if2.false, eq-eqb _ 0 third.if3.false, eq-eqb _ 0 c.if4.false) refl

@@ -8,13 +8,13 @@ use borrow.Author.Tests.{not-true, not-false}
 use Rattle.protocol.specs.declared.Tally.{Tally}
 use Rattle.protocol.specs.Steps.{outcome, step}
 use Rattle.layout.specs.Marks.{mark_of}
-use Rattle.shape.specs.Shape.{shapedAs}
+use Rattle.shape.specs.Shape.{shaped_as}
 use Rattle.shape.proofs.Nets.{marked}
 use Rattle.net.specs.View.{view}
-use Rattle.net.specs.Encode.{bytesLike}
-use Rattle.access.specs.inner.Nets.{IsNet}
+use Rattle.net.specs.Encode.{bytes_like}
+use Rattle.access.specs.Inner.Nets.{IsNet}
 use Rattle.access.proofs.Laws.{is-net}
-use Rattle.step.specs.inner.Counted.{caseCounted}
+use Rattle.step.specs.Inner.Counted.{case_counted}
 use Rattle.step.proofs.Ends.{one-net, one-refused, one-accepted, one-case, kept, on-refusal, on-net, on_none}
 use borrow.Author.Rules.{rules}
 use Rattle.step.proofs.step_as.Statement.{statement}
@@ -30,7 +30,7 @@ else1 x = x.before.before.before
 abbrev run_in : tie.After-struct-known → tie.After-run-in
 run_in x = x.before.before.before
 
-ok : (x : tie.Else1) → shapedAs (start x).args.m (start x).args.net.now ≡ true
+ok : (x : tie.Else1) → shaped_as (start x).args.m (start x).args.net.now ≡ true
 ok x = sym x.before.shaped-as.ensures ∙ not-false _ x.if1.false
 
 -- the net and its outcome
@@ -41,8 +41,8 @@ abbrev O : tie.Else1 → ℕ
 O x = let a = (start x).args in outcome (view (l x)) a.action a.a a.b a.c
 
 -- what the script of one left
-left : (x : tie.After-run-in) → let a = (start (else1 x)).args in x.run_in.new.0 ≡ bytesLike a.net.now (step (view a.net.now) a.action a.a a.b a.c)
-left x = let a = (start (else1 x)).args in x.run_in.ensures.1 ∙ ap (bytesLike a.net.now) (one-net (view a.net.now) a.action a.a a.b a.c)
+left : (x : tie.After-run-in) → let a = (start (else1 x)).args in x.run_in.new.0 ≡ bytes_like a.net.now (step (view a.net.now) a.action a.a a.b a.c)
+left x = let a = (start (else1 x)).args in x.run_in.ensures.1 ∙ ap (bytes_like a.net.now) (one-net (view a.net.now) a.action a.a a.b a.c)
 
 -- where it was refused, the net is as it was
 refused : (x : tie.Then2) → O (else1 (run_in x.before)) ≢ 0
@@ -110,7 +110,7 @@ returns-3 c = let r = run_in c.before.before in
     let N = view a.net.now in
     let none = one-accepted N a.action a.a a.b a.c ((λ i. (sym r.run_in.ensures.0 i).refused) ∙ c.before.if2.false) in
     on-net a.m a.net.now a.action a.a a.b a.c (ok y) none
-    (c.case-counted.ensures ∙ ap (λ (t : Tally). caseCounted t.replies) r.run_in.ensures.0 ∙ one-case N a.action a.a a.b a.c none) (left r)
+    (c.case-counted.ensures ∙ ap (λ (t : Tally). case_counted t.replies) r.run_in.ensures.0 ∙ one-case N a.action a.a a.b a.c none) (left r)
 
 pub step-as-spec : {M : Type 1} → statement M
 step-as-spec =

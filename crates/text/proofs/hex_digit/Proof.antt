@@ -1,6 +1,6 @@
 use mathlib.Core.Path.{refl}
 use borrow.Author.Tests.{lt-ltb, le-ltb}
-use Rattle.text.specs.Text.{hexDigit}
+use Rattle.text.specs.Text.{hex_digit}
 use native.Mathlib.Omega.{arith}
 use Rattle.text.proofs.hex_digit.Statement.{statement}
 use Rattle.text.proofs.hex_digit.Tie as tie
@@ -12,11 +12,11 @@ add-result-2 : tie.Need-overflow-add-result-2
 add-result-2 c = omega arith
 
 returns : tie.Need-returns
-unfolding hexDigit
+unfolding hex_digit
 returns c = rw (lt-ltb _ _ c.if1.true) refl
 
 returns-2 : tie.Need-returns-2
-unfolding hexDigit
+unfolding hex_digit
 returns-2 c = rw (le-ltb _ _ c.if1.false) refl
 
 pub hex-digit-spec : {M : Type 1} → statement M

@@ -2,14 +2,14 @@ use native.Mathlib.Omega.{arith}
 use mathlib.Core.Path.{◌≡◌}
 use Prim.Native.Nat.{◌≤◌, ◌-◌, ◌*◌}
 use lib.ListN.{length, get_or}
-use Rattle.text.specs.Text.{row, each, hexByte, hex}
-use Rattle.text.specs.inner.Within.{WroteWithin}
+use Rattle.text.specs.Text.{row, each, hex_byte, hex}
+use Rattle.text.specs.Inner.Within.{WroteWithin}
 use Rattle.text.proofs.Puts.{within_none, row_more}
 use Rattle.text.proofs.put_hex.Statement.{statement}
 use Rattle.text.proofs.put_hex.Tie as tie
 
 abbrev invariant-loop : tie.invariant-loop
-invariant-loop out₀ at s n next₀ i₀ out next i = (i ≤ n) × WroteWithin (2 * i) out₀ out at next (each i (λ k. hexByte (get_or s k 0)))
+invariant-loop out₀ at s n next₀ i₀ out next i = (i ≤ n) × WroteWithin (2 * i) out₀ out at next (each i (λ k. hex_byte (get_or s k 0)))
 
 abbrev decreases-loop : tie.decreases-loop
 decreases-loop out₀ at s n next₀ i₀ out next i = n - i
@@ -31,7 +31,7 @@ loop-less : tie.Need-loop-smaller invariant-loop decreases-loop
 loop-less c = omega arith
 
 loop-again : tie.Need-loop-preserved invariant-loop decreases-loop
-unfolding hexByte
+unfolding hex_byte
 loop-again c = (omega arith, row_more _ _ c.before.before.before.before.before.before.loop.invariant.1 c.before.before.put-hex-byte.ensures)
 
 same_length : tie.Need-same-length invariant-loop decreases-loop

@@ -4,7 +4,7 @@ use native.Mathlib.Omega.{arith}
 use lib.ListN.{length-set}
 use Rattle.bits.specs.Parts.{splice}
 use Rattle.text.proofs.Puts.{within_of}
-use Rattle.text.specs.Text.{hexByte}
+use Rattle.text.specs.Text.{hex_byte}
 use borrow.Author.Rules.{rules}
 use Rattle.text.proofs.put_hex_byte.Statement.{statement}
 use Rattle.text.proofs.put_hex_byte.Tie as tie
@@ -31,7 +31,7 @@ same_length : tie.Need-same-length
 same_length c = search rules
 
 returns : tie.Need-returns
-unfolding splice hexByte
+unfolding splice hex_byte
 returns c = within_of (record { next = refl; bytes = rw (c.before.hex-digit.ensures, c.hex-digit2.ensures, add-one) refl }) (omega arith)
 
 pub put-hex-byte-spec : {M : Type 1} → statement M

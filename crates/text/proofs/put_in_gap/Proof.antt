@@ -1,6 +1,6 @@
 use native.Mathlib.Omega.{arith}
 use mathlib.Core.Path.{sym, ◌∙◌}
-use Rattle.text.specs.Text.{text, inGap}
+use Rattle.text.specs.Text.{text, in_gap}
 use Rattle.text.proofs.Puts.{within_of}
 use Rattle.text.proofs.put_in_gap.Statement.{statement}
 use Rattle.text.proofs.put_in_gap.Tie as tie
@@ -18,7 +18,7 @@ same_length : tie.Need-same-length
 same_length c = omega arith
 
 returns : tie.Need-returns
-unfolding text inGap
+unfolding text in_gap
 returns c =
     let x = c.before.before.before.before in
     rw (sym x.before.is-nil.ensures ∙ x.if1.true) (within_of c.before.before.put_byte.ensures.wrote (omega arith))
@@ -27,7 +27,7 @@ same-length-2 : tie.Need-same-length-2
 same-length-2 c = omega arith
 
 returns-2 : tie.Need-returns-2
-unfolding inGap
+unfolding in_gap
 returns-2 c =
     let x = c.before.before.before.before in
     rw (sym x.before.is-nil.ensures ∙ x.if1.false) c.before.before.put-number.ensures

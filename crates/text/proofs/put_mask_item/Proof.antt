@@ -1,6 +1,6 @@
 use native.Mathlib.Omega.{arith}
 use mathlib.Core.Path.{sym, ◌∙◌}
-use Rattle.text.specs.Text.{maskItem}
+use Rattle.text.specs.Text.{mask_item}
 use Rattle.text.proofs.Puts.{within_none, ◌then◌}
 use Rattle.text.proofs.put_mask_item.Statement.{statement}
 use Rattle.text.proofs.put_mask_item.Tie as tie
@@ -18,13 +18,13 @@ same_length : tie.Need-same-length
 same_length c = omega arith
 
 returns : tie.Need-returns
-unfolding maskItem
+unfolding mask_item
 returns c = let x = c.before.before.before.before.before.before in
     rw (sym x.before.before.before.has.ensures ∙ x.before.before.if1.true)
     (x.put-byte-if.ensures then c.before.before.put-number.ensures)
 
 returns-2 : tie.Need-returns-2
-unfolding maskItem
+unfolding mask_item
 returns-2 c = rw (sym c.before.has.ensures ∙ c.if1.false) (within_none _ _ _)
 
 pub put-mask-item-spec : {M : Type 1} → statement M

@@ -1,13 +1,13 @@
 use Prim.Native.Nat.{◌≤◌, ◌-◌, ◌*◌}
 use native.Mathlib.Omega.{arith}
-use Rattle.text.specs.Text.{row, maskItem}
-use Rattle.text.specs.inner.Within.{WroteWithin}
+use Rattle.text.specs.Text.{row, mask_item}
+use Rattle.text.specs.Inner.Within.{WroteWithin}
 use Rattle.text.proofs.Puts.{within_none, row_more, row-all, dash-after}
 use Rattle.text.proofs.put_mask_or_dash.Statement.{statement}
 use Rattle.text.proofs.put_mask_or_dash.Tie as tie
 
 abbrev invariant-loop : tie.invariant-loop
-invariant-loop out₀ at m next₀ p₀ out next p = (p ≤ 16) × WroteWithin (11 * p) out₀ out at next (row p (maskItem m))
+invariant-loop out₀ at m next₀ p₀ out next p = (p ≤ 16) × WroteWithin (11 * p) out₀ out at next (row p (mask_item m))
 
 abbrev decreases-loop : tie.decreases-loop
 decreases-loop out₀ at m next₀ p₀ out next p = 16 - p

@@ -5,12 +5,12 @@ use native.Mathlib.Omega.{arith}
 use lib.Dec.{ltb}
 use borrow.Author.Tests.{not-true, not-false, lt-ltb, le-ltb}
 use Rattle.protocol.specs.declared.Entry.{Entry}
-use Rattle.protocol.specs.Net.{Net, largestClock, setEntry}
-use Rattle.protocol.specs.Entries.{withClock}
+use Rattle.protocol.specs.Net.{Net, largest_clock, set_entry}
+use Rattle.protocol.specs.Entries.{with_clock}
 use Rattle.protocol.specs.Rules.{Rule}
 use Rattle.protocol.specs.Rules as rule
 use Rattle.net.specs.View.{view}
-use Rattle.net.specs.Encode.{bytesLike}
+use Rattle.net.specs.Encode.{bytes_like}
 use Rattle.access.proofs.Laws.{made}
 use Rattle.action.proofs.Ends.{ends-3, ends-5, ends-0}
 use borrow.Author.Rules.{rules}
@@ -38,9 +38,9 @@ entry y = let s = y.before.before.before.before.before.before.before.before in
     y.entry-as.ensures ∙ ap ((N s).entry s.args.g) y.before.before.root-of.ensures.0
 
 clock-room : (y : tie.After-entry-as) → let s = y.before.before.before.before.before.before.before.before in
-    (R s).clockRoom ≡ ltb y.entry-as.result.clock largestClock
+    (R s).clock_room ≡ ltb y.entry-as.result.clock largest_clock
 unfolding rule.tick
-clock-room y = ap (λ (e : Entry). ltb e.clock largestClock) (sym (entry y))
+clock-room y = ap (λ (e : Entry). ltb e.clock largest_clock) (sym (entry y))
 
 of-group-requires : tie.Need-of-group-requires
 of-group-requires c κs = search rules
@@ -76,7 +76,7 @@ set-clock-requires : tie.Need-set-clock-requires
 set-clock-requires c κs = let y = c.before.before in
     let x = y.before.before.before.before in
     let r = x.before.before.before.before.requires.0 in
-    (r.long, omega (arith, in-groups x, r.groupsMost), omega (arith, y.before.before.root-of.ensures.1, r.stationsMost))
+    (r.long, omega (arith, in-groups x, r.groups_most), omega (arith, y.before.before.root-of.ensures.1, r.stations_most))
 
 same-length-3 : tie.Need-same-length-3
 same-length-3 c = search rules
@@ -90,9 +90,9 @@ returns-3 c = let z = c.before.before in
     let g = s.args.g in
     let root = y.before.before.root-of in
     ends-0 _ _ refl refl
-    (record { operands = operands x; enabled = refl; clockRoom = clock-room y ∙ lt-ltb _ _ z.before.before.if2.false; sendRoom = refl })
-    (made _ s.requires.0 s.args.m g root.result _ (λ (e : Entry). withClock e (y.entry-as.result.clock + 1)) s.requires.1 (in-groups x) root.ensures.1 z.set-clock.ensures
-    ∙ (λ i. bytesLike s.args.net.now (setEntry (N s) g (root.ensures.0 i) (withClock ((N s).entry g (root.ensures.0 i)) ((entry y i).clock + 1)))))
+    (record { operands = operands x; enabled = refl; clock_room = clock-room y ∙ lt-ltb _ _ z.before.before.if2.false; send_room = refl })
+    (made _ s.requires.0 s.args.m g root.result _ (λ (e : Entry). with_clock e (y.entry-as.result.clock + 1)) s.requires.1 (in-groups x) root.ensures.1 z.set-clock.ensures
+    ∙ (λ i. bytes_like s.args.net.now (set_entry (N s) g (root.ensures.0 i) (with_clock ((N s).entry g (root.ensures.0 i)) ((entry y i).clock + 1)))))
 
 pub tick-spec : {M : Type 1} → statement M
 tick-spec =

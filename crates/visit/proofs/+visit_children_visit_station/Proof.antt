@@ -12,7 +12,7 @@ use Rattle.tree.specs.Tree.{agreed}
 use Rattle.protocol.specs.declared.Entry.{Entry}
 use Rattle.protocol.specs.Calls.{tree_of}
 use Rattle.net.specs.View.{view}
-use Rattle.visit.specs.Lists.{listLength}
+use Rattle.visit.specs.Lists.{list_length}
 use Rattle.visit.proofs.Visits.{none-wrote, end-wrote, take-fit, rest-fit, both-wrote, skip-fit, skip-wrote, line-room, line-fit, line_wrote}
 use Rattle.visit.proofs.visit_children.Reads as visit-children
 use Rattle.visit.proofs.visit_children.Kinds as visit-children-kinds
@@ -94,13 +94,13 @@ module _ (t : ℕ) where
       let s = children-start x in
       let a = s.args in
       let F = s.pre.1.1 in (
-        omega (arith, s.pre.0, left x, F.is-net.stationsMost),
+        omega (arith, s.pre.0, left x, F.is-net.stations_most),
         take-fit a.net.now a.g a.depth a.allowance a.out.now a.p a.j a.at (left x) (taken c.before) F,
       )
 
   children-add : visit-children-lts.Need-overflow-add-visit-children C P visit-children.Post
   children-add c = let x = c.before.before.before.before.before.before in
-      omega (arith, left x, (children-start x).requires.1.1.is-net.stationsMost)
+      omega (arith, left x, (children-start x).requires.1.1.is-net.stations_most)
 
   children-visit-children-requires : visit-children-lts.Need-visit-children-requires C P visit-children.Post
   children-visit-children-requires c κs = let v = c.before.before.before in
@@ -109,7 +109,7 @@ module _ (t : ℕ) where
       let s = children-start x in
       let a = s.args in
       let F = s.pre.1.1 in (
-        omega (arith, s.pre.0, left x, F.is-net.stationsMost),
+        omega (arith, s.pre.0, left x, F.is-net.stations_most),
         (
           omega (arith, left x),
           rest-fit a.net.now a.g a.depth a.allowance a.out.now v.visit-station.new.1.1.1.1.1.0 a.p a.j a.at
@@ -118,14 +118,14 @@ module _ (t : ℕ) where
       )
 
   children-add-2 : visit-children-lts.Need-overflow-add-visit-children-2 C P visit-children.Post
-  children-add-2 c = let x = c.before.before in omega (arith, left x, (children-start x).requires.1.1.is-net.stationsMost)
+  children-add-2 c = let x = c.before.before in omega (arith, left x, (children-start x).requires.1.1.is-net.stations_most)
 
   children-visit-children-requires-2 : visit-children-lts.Need-visit-children-requires-2 C P visit-children.Post
   children-visit-children-requires-2 c κs = let x = c.before.before.before in
       let s = children-start x in
       let a = s.args in
       let F = s.pre.1.1 in (
-        omega (arith, s.pre.0, left x, F.is-net.stationsMost),
+        omega (arith, s.pre.0, left x, F.is-net.stations_most),
         (
           omega (arith, left x),
           skip-fit a.net.now a.g a.depth a.allowance a.out.now a.p a.j a.at (left x) (skipped c.before) F,
@@ -177,7 +177,7 @@ module _ (t : ℕ) where
   station-start x = x.before.before.before
 
   -- room for the station's own entry
-  room : (x : visit-station-lts.Else1 S Q visit-station.Post) → (station-start x).args.at + 3 ≤ listLength
+  room : (x : visit-station-lts.Else1 S Q visit-station.Post) → (station-start x).args.at + 3 ≤ list_length
   room x = let s = station-start x in
       let a = s.args in
       line-room a.net.now a.g a.depth a.allowance a.out.now a.p a.at x.if1.false s.pre.1

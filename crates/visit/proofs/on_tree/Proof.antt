@@ -4,7 +4,7 @@ use Prim.Native.Nat.{ℕ, ◌<◌}
 use native.Mathlib.Omega.{arith}
 use borrow.Author.Tests.{not-true, not-false}
 use Rattle.protocol.specs.declared.Entry.{Entry}
-use Rattle.tree.specs.Tree.{Tree, climbs, onTree}
+use Rattle.tree.specs.Tree.{Tree, climbs, on_tree}
 use Rattle.protocol.specs.Calls.{tree_of}
 use Rattle.net.specs.View.{view}
 use Rattle.visit.proofs.Climbs.{climb-none, climb-root, climb-up, climb-off, agreed-station}
@@ -13,7 +13,7 @@ use Rattle.visit.proofs.on_tree.Statement.{statement}
 use Rattle.visit.proofs.on_tree.Tie as tie
 
 abbrev invariant-loop : tie.invariant-loop
-invariant-loop net g c root x₀ hops₀ x hops = (x < (view net).stations) × (onTree (tree_of (view net) g) c ≡ climbs (tree_of (view net) g) hops x)
+invariant-loop net g c root x₀ hops₀ x hops = (x < (view net).stations) × (on_tree (tree_of (view net) g) c ≡ climbs (tree_of (view net) g) hops x)
 
 abbrev decreases-loop : tie.decreases-loop
 decreases-loop net g c root x₀ hops₀ x hops = hops
@@ -37,7 +37,7 @@ stations-requires : tie.Need-stations-requires invariant-loop decreases-loop
 stations-requires c κs = c.before.before.requires.0
 
 loop-holds : tie.Need-loop-init invariant-loop decreases-loop
-unfolding onTree tree_of
+unfolding on_tree tree_of
 loop-holds c = let s = c.before.before.before in
     (s.requires.1.1, ap (λ (k : ℕ). climbs (tree_of (view s.args.net.now) s.args.g) k s.args.c) (sym c.stations.ensures))
 

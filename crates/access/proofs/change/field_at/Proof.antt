@@ -1,7 +1,7 @@
 use mathlib.Core.Path.{ap, ◌∙◌}
 use Prim.Native.Nat.{ℕ, ◌+◌}
 use native.Mathlib.Omega.{arith}
-use Rattle.layout.specs.Marks.{stretchAt, inStretch}
+use Rattle.layout.specs.Marks.{stretch_at, in_stretch}
 use borrow.Author.Rules.{rules}
 use Rattle.access.proofs.change.field_at.Statement.{statement}
 use Rattle.access.proofs.change.field_at.Tie as tie
@@ -33,8 +33,8 @@ returns c = let k = c.before in
     let x = z.before in
     let s = x.before.before in
     record {
-      starts = x.stretch-at.ensures.0 ∙ ap (stretchAt s.args.m) x.before.wide.ensures.0;
-      stands = ap (λ (i : ℕ). i + s.args.o) (c.in-stretch.ensures.0 ∙ ap (inStretch s.args.m) k.wide2.ensures.0);
+      starts = x.stretch-at.ensures.0 ∙ ap (stretch_at s.args.m) x.before.wide.ensures.0;
+      stands = ap (λ (i : ℕ). i + s.args.o) (c.in-stretch.ensures.0 ∙ ap (in_stretch s.args.m) k.wide2.ensures.0);
       fits = omega (arith, z.stretch-size.ensures, c.in-stretch.ensures.1);
       inside = omega (arith, z.stretch-size.ensures, x.stretch-at.ensures.1);
     }

@@ -5,10 +5,10 @@ use native.Mathlib.Omega.{arith}
 use Rattle.bits.proofs.Parts.{lent, back}
 use Rattle.protocol.specs.declared.Message.{Message}
 use Rattle.protocol.specs.Net.{send}
-use Rattle.protocol.proofs.laws.Maps.{length-snoc}
-use Rattle.channel.specs.Messages.{messagesOf, channelBytes}
-use Rattle.channel.specs.inner.Channels.{IsChannel}
-use Rattle.layout.specs.Layout.{channelSize, channelAt}
+use Rattle.protocol.proofs.Laws.Maps.{length-snoc}
+use Rattle.channel.specs.Messages.{messages_of, channel_bytes}
+use Rattle.channel.specs.Inner.Channels.{IsChannel}
+use Rattle.layout.specs.Layout.{channel_size, channel_at}
 use Rattle.net.specs.View.{view}
 use Rattle.access.proofs.Laws.{channel-lent, channel-back}
 use borrow.Author.Rules.{rules}
@@ -18,14 +18,14 @@ use Rattle.access.proofs.change.send.Tie as tie
 abbrev start : tie.After-channel-at → tie.Start
 start x = x.before.before.before.before
 
-at-channel : (x : tie.After-channel-at) → x.channel-at.result ≡ channelAt (start x).args.s (start x).args.d
+at-channel : (x : tie.After-channel-at) → x.channel-at.result ≡ channel_at (start x).args.s (start x).args.d
 at-channel x = omega arith
 
 abbrev channel : tie.After-channel-at → List ℕ
-channel x = let at = x.channel-at.result in lent at (at + channelSize - at) (start x).args.net.now
+channel x = let at = x.channel-at.result in lent at (at + channel_size - at) (start x).args.net.now
 
 channel-is : (x : tie.After-channel-at) → let a = (start x).args in
-    IsChannel (channel x) × (messagesOf (channel x) ≡ (view a.net.now).channel a.s a.d)
+    IsChannel (channel x) × (messages_of (channel x) ≡ (view a.net.now).channel a.s a.d)
 channel-is x = let s = start x in
     channel-lent _ s.pre.0 s.args.s s.args.d _ s.pre.1.0 s.pre.1.1 (at-channel x)
 
@@ -62,8 +62,8 @@ returns c = let x = c.before.before.before.before in
     let s = start x in
     let a = s.args in
     let ms = (view a.net.now).channel a.s a.d in
-    ap (λ (ys : List ℕ). back x.channel-at.result (x.channel-at.result + channelSize - x.channel-at.result) a.net.now ys)
-    (c.before.before.push.ensures ∙ ap (λ (l : List Message). channelBytes (l ++ (a.m ∷ []))) (channel-is x).1)
+    ap (λ (ys : List ℕ). back x.channel-at.result (x.channel-at.result + channel_size - x.channel-at.result) a.net.now ys)
+    (c.before.before.push.ensures ∙ ap (λ (l : List Message). channel_bytes (l ++ (a.m ∷ []))) (channel-is x).1)
     ∙ channel-back a.net.now s.pre.0 a.s a.d _ s.pre.1.0 s.pre.1.1 (at-channel x) (ms ++ (a.m ∷ []))
     (omega (arith, s.pre.1.2, length-snoc ms a.m))
 

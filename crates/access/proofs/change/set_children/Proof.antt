@@ -2,7 +2,7 @@ use native.Mathlib.Omega.{arith}
 use Rattle.bits.specs.Numbers.{bytes}
 use Rattle.bits.proofs.Numbers.{length-bytes}
 use Rattle.protocol.specs.declared.Entry.{Entry}
-use Rattle.protocol.specs.Entries.{withChildren}
+use Rattle.protocol.specs.Entries.{with_children}
 use Rattle.net.proofs.Records.{children-put}
 use Rattle.access.proofs.Laws.{field-made}
 use borrow.Author.Rules.{rules}
@@ -17,7 +17,7 @@ same_length c = search rules
 
 returns : tie.Need-returns
 returns c = let a = c.before.before.before.before.before.args in
-    field-made a.m a.g a.p a.net.now _ 8 (bytes 2 a.children) (λ (e : Entry). withChildren e a.children) (λ e. children-put e a.children) (omega (arith, length-bytes 2 a.children)) c.before.before.set-mask.ensures
+    field-made a.m a.g a.p a.net.now _ 8 (bytes 2 a.children) (λ (e : Entry). with_children e a.children) (λ e. children-put e a.children) (omega (arith, length-bytes 2 a.children)) c.before.before.set-mask.ensures
 
 pub set-children-spec : {M : Type 1} → statement M
 set-children-spec = tie.close (tie.spec set-mask-requires same_length returns)

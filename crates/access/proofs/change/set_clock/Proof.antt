@@ -5,7 +5,7 @@ use Rattle.bits.specs.Numbers.{bytes}
 use Rattle.bits.proofs.Numbers.{length-bytes}
 use Rattle.bits.proofs.Parts.{back}
 use Rattle.protocol.specs.declared.Entry.{Entry}
-use Rattle.protocol.specs.Entries.{withClock}
+use Rattle.protocol.specs.Entries.{with_clock}
 use Rattle.net.proofs.Records.{clock-put}
 use Rattle.access.proofs.Laws.{field-made, field_back}
 use borrow.Author.Rules.{rules}
@@ -36,7 +36,7 @@ returns c = let w = c.before.before in
     let a = x.before.before.args in
     let f = x.field_at.result in
     let short = length-bytes 4 a.clock in
-    field-made a.m a.g a.p a.net.now _ 4 (bytes 4 a.clock) (λ (e : Entry). withClock e a.clock) (λ e. clock-put e a.clock) (omega (arith, short))
+    field-made a.m a.g a.p a.net.now _ 4 (bytes 4 a.clock) (λ (e : Entry). with_clock e a.clock) (λ e. clock-put e a.clock) (omega (arith, short))
     (ap (back f.start (f.end - f.start) a.net.now) w.put32.ensures
     ∙ field_back a.m a.g a.p 4 f a.net.now (bytes 4 a.clock) x.field_at.ensures (omega (arith, short)))
 

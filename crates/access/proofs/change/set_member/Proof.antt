@@ -1,7 +1,7 @@
 use mathlib.Core.List.{[], ◌∷◌}
 use native.Mathlib.Omega.{arith}
 use Rattle.protocol.specs.declared.Entry.{Entry}
-use Rattle.protocol.specs.Entries.{withMember}
+use Rattle.protocol.specs.Entries.{with_member}
 use Rattle.net.proofs.Records.{member-put}
 use Rattle.access.proofs.Laws.{field-made}
 use borrow.Author.Rules.{rules}
@@ -16,7 +16,7 @@ same_length c = search rules
 
 returns : tie.Need-returns
 returns c = let a = c.before.before.before.before.before.args in
-    field-made a.m a.g a.p a.net.now _ 2 (a.v ∷ []) (λ (e : Entry). withMember e a.v) (λ e. member-put e a.v) (omega (arith)) c.before.before.set-byte.ensures
+    field-made a.m a.g a.p a.net.now _ 2 (a.v ∷ []) (λ (e : Entry). with_member e a.v) (λ e. member-put e a.v) (omega (arith)) c.before.before.set-byte.ensures
 
 pub set-member-spec : {M : Type 1} → statement M
 set-member-spec = tie.close (tie.spec set-byte-requires same_length returns)

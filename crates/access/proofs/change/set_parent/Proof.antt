@@ -1,7 +1,7 @@
 use mathlib.Core.List.{[], ◌∷◌}
 use native.Mathlib.Omega.{arith}
 use Rattle.protocol.specs.declared.Entry.{Entry}
-use Rattle.protocol.specs.Entries.{withParents}
+use Rattle.protocol.specs.Entries.{with_parents}
 use Rattle.net.proofs.Records.{parent-put}
 use Rattle.access.proofs.Laws.{field-made}
 use borrow.Author.Rules.{rules}
@@ -16,7 +16,7 @@ same_length c = search rules
 
 returns : tie.Need-returns
 returns c = let a = c.before.before.before.before.before.args in
-    field-made a.m a.g a.p a.net.now _ 0 (a.q ∷ []) (λ (e : Entry). withParents e a.q e.tentative) (λ e. parent-put e a.q) (omega (arith)) c.before.before.set-byte.ensures
+    field-made a.m a.g a.p a.net.now _ 0 (a.q ∷ []) (λ (e : Entry). with_parents e a.q e.tentative) (λ e. parent-put e a.q) (omega (arith)) c.before.before.set-byte.ensures
 
 pub set-parent-spec : {M : Type 1} → statement M
 set-parent-spec = tie.close (tie.spec set-byte-requires same_length returns)

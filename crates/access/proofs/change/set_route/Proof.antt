@@ -1,7 +1,7 @@
 use mathlib.Core.Path.{◌≡◌}
 use native.Mathlib.Omega.{arith}
 use Rattle.bits.specs.Parts.{splice}
-use Rattle.layout.specs.Layout.{routeAt}
+use Rattle.layout.specs.Layout.{route_at}
 use Rattle.access.proofs.Laws.{route-back}
 use borrow.Author.Rules.{rules}
 use Rattle.access.proofs.change.set_route.Statement.{statement}
@@ -25,7 +25,7 @@ same_length c = search rules
 returns : tie.Need-returns
 unfolding splice
 returns c = let a = c.before.before.before.before.args in
-    let i : c.route-at.result ≡ routeAt a.p a.d = omega arith in
+    let i : c.route-at.result ≡ route_at a.p a.d = omega arith in
     route-back a.net.now c.before.before.before.before.requires.0 a.p a.d _ a.q i c.before.before.before.before.requires.1.0 c.before.before.before.before.requires.1.1
 
 pub set-route-spec : {M : Type 1} → statement M

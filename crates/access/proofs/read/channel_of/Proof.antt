@@ -1,6 +1,6 @@
 use mathlib.Core.Path.{◌≡◌}
 use native.Mathlib.Omega.{arith}
-use Rattle.layout.specs.Layout.{channelAt}
+use Rattle.layout.specs.Layout.{channel_at}
 use Rattle.access.proofs.Laws.{channel-lent}
 use borrow.Author.Rules.{rules}
 use Rattle.access.proofs.read.channel_of.Statement.{statement}
@@ -30,7 +30,7 @@ part-result-end c = search rules
 returns : tie.Need-returns
 returns c = let s = c.before.before.before.before.before in
     let a = s.args in
-    let at : c.before.channel-at.result ≡ channelAt a.s a.d = omega arith in
+    let at : c.before.channel-at.result ≡ channel_at a.s a.d = omega arith in
     channel-lent a.net.now s.requires.0 a.s a.d _ s.requires.1.0 s.requires.1.1 at
 
 pub channel-of-spec : {M : Type 1} → statement M

@@ -3,7 +3,7 @@ use Prim.Native.Nat.{ℕ}
 use native.Mathlib.Omega.{arith}
 use Rattle.bits.specs.Parts.{part}
 use Rattle.layout.specs.declared.form.Mark.{Mark}
-use Rattle.layout.specs.Marks.{entryAt}
+use Rattle.layout.specs.Marks.{entry_at}
 use Rattle.net.specs.View.{entry_of}
 use Rattle.net.proofs.Forms.{view-entry}
 use borrow.Author.Rules.{rules}
@@ -20,7 +20,7 @@ returns : tie.Need-returns
 returns c = let s = c.before.before.before in
     let a = s.args in
     c.read-entry.ensures
-    ∙ ap (λ (x : ℕ). entry_of (part 12 a.net.now x)) (c.before.entry_IsPlace.ensures.0 ∙ ap (λ (m : Mark). entryAt m a.g a.p) s.requires.1.0)
+    ∙ ap (λ (x : ℕ). entry_of (part 12 a.net.now x)) (c.before.entry_IsPlace.ensures.0 ∙ ap (λ (m : Mark). entry_at m a.g a.p) s.requires.1.0)
     ∙ sym (view-entry a.net.now a.g a.p (omega arith) (omega arith))
 
 pub entry-as-spec : {M : Type 1} → statement M

@@ -1,5 +1,5 @@
 use mathlib.Core.Path.{◌∙◌}
-use Rattle.layout.specs.Marks.{entryAt}
+use Rattle.layout.specs.Marks.{entry_at}
 use borrow.Author.Rules.{rules}
 use Rattle.access.proofs.read.entry_place.Statement.{statement}
 use Rattle.access.proofs.read.entry_place.Tie as tie
@@ -15,7 +15,7 @@ entry-at-requires c κs = search rules
 
 returns : tie.Need-returns
 returns c = let s = c.before.before.before in
-    (c.entry_at.ensures.0 ∙ (λ i. entryAt s.args.m (c.before.before.wide.ensures.0 i) (c.before.wide2.ensures.0 i)), c.entry_at.ensures.1)
+    (c.entry_at.ensures.0 ∙ (λ i. entry_at s.args.m (c.before.before.wide.ensures.0 i) (c.before.wide2.ensures.0 i)), c.entry_at.ensures.1)
 
 pub entry-place-spec : {M : Type 1} → statement M
 entry-place-spec = tie.close (tie.spec wide-requires wide-requires-2 entry-at-requires returns)

@@ -1,6 +1,6 @@
 use mathlib.Core.Path.{ap, ◌∙◌}
 use Prim.Native.Nat.{ℕ, ◌+◌}
-use Rattle.layout.specs.Layout.{groupAt, nameLength}
+use Rattle.layout.specs.Layout.{group_at, name_length}
 use Rattle.access.proofs.Laws.{name-is}
 use borrow.Author.Rules.{rules}
 use Rattle.access.proofs.read.name_of.Statement.{statement}
@@ -41,8 +41,8 @@ returns c = let x = c.before.before.before.before in
     let s = x.before.before.before in
     let l = s.args.net.now in
     name-is l s.requires.0 s.args.g _ _ s.requires.1
-    (ap (λ (k : ℕ). k + 1) (x.group_at.ensures.0 ∙ ap groupAt x.before.wide.ensures.0))
-    (c.before.wide3.ensures.0 ∙ c.before.before.name-length.ensures ∙ ap (nameLength l) c.before.before.before.wide2.ensures.0)
+    (ap (λ (k : ℕ). k + 1) (x.group_at.ensures.0 ∙ ap group_at x.before.wide.ensures.0))
+    (c.before.wide3.ensures.0 ∙ c.before.before.name-length.ensures ∙ ap (name_length l) c.before.before.before.wide2.ensures.0)
 
 pub name-of-spec : {M : Type 1} → statement M
 name-of-spec =

@@ -10,8 +10,8 @@ use Rattle.protocol.specs.Shaped.{Shaped}
 use Rattle.layout.specs.Layout.{neighbours}
 use Rattle.net.specs.View.{view}
 use Rattle.net.proofs.Forms.{seen}
-use Rattle.forms.specs.Plans.{planIn}
-use Rattle.forms.proofs.plan.Shown.{plan-mask}
+use Rattle.forms.specs.Plans.{plan_in}
+use Rattle.forms.proofs.Plan.Shown.{plan-mask}
 use borrow.Author.Rules.{rules}
 use Rattle.access.proofs.read.near.Statement.{statement}
 use Rattle.access.proofs.read.near.Tie as tie
@@ -44,13 +44,13 @@ wide-requires c κs = search rules
 neighbours-requires : tie.Need-neighbours-requires
 neighbours-requires c κs = let x = c.before in
     let r = x.before.before.before.requires in
-    (omega (arith, r.long), omega (arith, c.wide.ensures.0, below x, r.stationsMost))
+    (omega (arith, r.long), omega (arith, c.wide.ensures.0, below x, r.stations_most))
 
 has-requires : tie.Need-has-requires
 has-requires c κs = search rules
 
 returns-2 : tie.Need-returns-2
-unfolding view planIn
+unfolding view plan_in
 returns-2 c = let x = c.before.before.before in
     let s = x.before.before.before in
     let l = s.args.net.now in

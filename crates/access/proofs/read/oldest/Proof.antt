@@ -2,7 +2,7 @@ use mathlib.Core.Path.{ap, ◌∙◌}
 use mathlib.Core.List.{List}
 use lib.ListN.{get_or}
 use Rattle.protocol.specs.declared.Message.{Message}
-use Rattle.protocol.specs.Rules.{noMessage}
+use Rattle.protocol.specs.Rules.{no_message}
 use borrow.Author.Rules.{rules}
 use Rattle.access.proofs.read.oldest.Statement.{statement}
 use Rattle.access.proofs.read.oldest.Tie as tie
@@ -14,7 +14,7 @@ message-at-requires : tie.Need-message-at-requires
 message-at-requires c κs = (c.channel-of.ensures.0, rw c.channel-of.ensures.1 c.before.before.requires.1.2)
 
 returns : tie.Need-returns
-returns c = c.message-at.ensures ∙ ap (λ (ms : List Message). get_or ms 0 noMessage) c.before.channel-of.ensures.1
+returns c = c.message-at.ensures ∙ ap (λ (ms : List Message). get_or ms 0 no_message) c.before.channel-of.ensures.1
 
 pub oldest-spec : {M : Type 1} → statement M
 oldest-spec = tie.close (tie.spec channel-of-requires message-at-requires returns)

@@ -5,7 +5,7 @@ use native.Mathlib.Omega.{arith}
 use lib.Dec.{eqb}
 use borrow.Author.Tests.{eqb-true, eqb-false, ne_eqb, not-true, not-false}
 use Rattle.protocol.specs.Net.{request, reply}
-use Rattle.protocol.specs.Entries.{underWay, count_of}
+use Rattle.protocol.specs.Entries.{under_way, count_of}
 use Rattle.net.specs.View.{view}
 use borrow.Author.Rules.{rules}
 use Rattle.access.proofs.read.quiet.Statement.{statement}
@@ -26,7 +26,7 @@ none-of-requires : tie.Need-none-of-requires
 none-of-requires c κs = search rules
 
 returns : tie.Need-returns
-unfolding underWay
+unfolding under_way
 returns c = let x = c.before in
     let a = x.before.before.args in
     let C = (view a.net.now).channel in
@@ -36,7 +36,7 @@ none-of-requires-2 : tie.Need-none-of-requires-2
 none-of-requires-2 c κs = search rules
 
 returns-2 : tie.Need-returns-2
-unfolding underWay
+unfolding under_way
 returns-2 c = let x = c.before.before in
     let a = x.before.before.args in
     let C = (view a.net.now).channel in

@@ -2,7 +2,7 @@ use mathlib.Core.Path.{sym, ap, ◌∙◌}
 use native.Mathlib.Omega.{arith}
 use Rattle.layout.specs.Layout.{root}
 use Rattle.net.specs.View.{view}
-use Rattle.forms.proofs.plan.Shown.{plan-root}
+use Rattle.forms.proofs.Plan.Shown.{plan-root}
 use Rattle.net.proofs.Forms.{seen}
 use borrow.Author.Rules.{rules}
 use Rattle.access.proofs.read.root_of.Statement.{statement}

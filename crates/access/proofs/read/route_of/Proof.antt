@@ -1,6 +1,6 @@
 use mathlib.Core.Path.{◌≡◌, sym, ap, ◌∙◌}
 use native.Mathlib.Omega.{arith}
-use Rattle.layout.specs.Layout.{byte, routeAt}
+use Rattle.layout.specs.Layout.{byte, route_at}
 use borrow.Author.Rules.{rules}
 use Rattle.access.proofs.read.route_of.Statement.{statement}
 use Rattle.access.proofs.read.route_of.Tie as tie
@@ -20,7 +20,7 @@ shared-slice-read-result c = search rules
 
 returns : tie.Need-returns
 returns c = let a = c.before.before.before.before.before.args in
-    let i : c.before.route-at.result ≡ routeAt a.p a.d = omega arith in
+    let i : c.before.route-at.result ≡ route_at a.p a.d = omega arith in
     ap (byte a.net.now) i ∙ sym (view-route a.net.now a.p a.d (omega arith) (omega arith))
 
 pub route-of-spec : {M : Type 1} → statement M

@@ -3,8 +3,8 @@ use mathlib.Core.Bool.{Bool, cond}
 use borrow.Author.Tests.{not-true, not-false}
 use Rattle.protocol.specs.declared.Entry.{Entry}
 use Rattle.protocol.specs.Net.{nil}
-use Rattle.protocol.specs.Entries.{withParents, leave}
-use Rattle.access.specs.inner.Nets.{EntryMade}
+use Rattle.protocol.specs.Entries.{with_parents, leave}
+use Rattle.access.specs.Inner.Nets.{EntryMade}
 use Rattle.access.proofs.Laws.{made-same, made_then}
 use borrow.Author.Rules.{rules}
 use Rattle.action.proofs.leave.stay_or_leave.Statement.{statement}
@@ -29,7 +29,7 @@ returns c = let t = c.before.before in
     let a = x.before.before.before.args in
     let no = sym x.before.stays.ensures ∙ not-true _ x.if1.true in
     subst (λ (b : Bool). EntryMade a.m a.net.now t.set-tentative.new.0 a.g a.p (λ e. cond b e (leave e))) (sym no)
-    (made_then a.m a.g a.p _ _ _ (λ (e : Entry). withParents e nil e.tentative) (λ (e : Entry). withParents e e.parent nil) q.set-parent.ensures t.set-tentative.ensures)
+    (made_then a.m a.g a.p _ _ _ (λ (e : Entry). with_parents e nil e.tentative) (λ (e : Entry). with_parents e e.parent nil) q.set-parent.ensures t.set-tentative.ensures)
 
 returns-2 : tie.Need-returns-2
 returns-2 c = let a = c.before.before.before.args in

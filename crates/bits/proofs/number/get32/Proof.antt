@@ -1,5 +1,5 @@
 use native.Mathlib.Omega.{arith}
-use Rattle.bits.proofs.Parts.{numberAt-add}
+use Rattle.bits.proofs.Parts.{number_at-add}
 use borrow.Author.Rules.{rules}
 use Rattle.bits.proofs.number.get32.Statement.{statement}
 use Rattle.bits.proofs.number.get32.Tie as tie
@@ -18,7 +18,7 @@ join16-requires c κs = search rules
 
 returns : tie.Need-returns
 returns c = let a = c.before.before.before.before.args in
-    omega (arith, c.join16.ensures, c.before.get162.ensures, c.before.before.get16.ensures, numberAt-add 2 2 a.s.now a.at)
+    omega (arith, c.join16.ensures, c.before.get162.ensures, c.before.before.get16.ensures, number_at-add 2 2 a.s.now a.at)
 
 pub get32-spec : {M : Type 1} → statement M
 get32-spec = tie.close (tie.spec get16-requires add-get16 get16-requires-2 join16-requires returns)

@@ -1,7 +1,7 @@
 use mathlib.Core.Path.{◌≡◌, ap}
 use Prim.Native.Nat.{ℕ, ◌*◌}
 use native.Mathlib.Omega.{arith}
-use Rattle.layout.specs.Marks.{inStretch}
+use Rattle.layout.specs.Marks.{in_stretch}
 use Rattle.layout.proofs.Marks.{stretch-inside, entry-inside}
 use borrow.Author.Rules.{rules}
 use Rattle.layout.proofs.form.in_stretch.Statement.{statement}
@@ -10,7 +10,7 @@ use Rattle.layout.proofs.form.in_stretch.Tie as tie
 by-station-requires : tie.Need-by-station-requires
 by-station-requires c κs = search rules
 
-product : (c : tie.After-by-station) → c.by-station.result * c.before.args.p ≡ inStretch c.before.args.m c.before.args.p
+product : (c : tie.After-by-station) → c.by-station.result * c.before.args.p ≡ in_stretch c.before.args.m c.before.args.p
 product c = ap (λ (k : ℕ). k * c.before.args.p) c.by-station.ensures
 
 mul-result : tie.Need-overflow-mul-result

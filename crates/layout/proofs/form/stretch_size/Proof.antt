@@ -1,8 +1,8 @@
 use mathlib.Core.Path.{◌≡◌, ap}
 use Prim.Native.Nat.{ℕ, ◌+◌, ◌*◌}
 use native.Mathlib.Omega.{arith}
-use Rattle.layout.specs.Layout.{entrySize}
-use Rattle.layout.specs.Marks.{stretchSize}
+use Rattle.layout.specs.Layout.{entry_size}
+use Rattle.layout.specs.Marks.{stretch_size}
 use Rattle.layout.proofs.Marks.{stretch-inside}
 use borrow.Author.Rules.{rules}
 use Rattle.layout.proofs.form.stretch_size.Statement.{statement}
@@ -11,8 +11,8 @@ use Rattle.layout.proofs.form.stretch_size.Tie as tie
 by-station-requires : tie.Need-by-station-requires
 by-station-requires c κs = search rules
 
-sum : (c : tie.After-by-station) → c.by-station.result * 15 + entrySize ≡ stretchSize c.before.args.m
-sum c = ap (λ (k : ℕ). k * 15 + entrySize) c.by-station.ensures
+sum : (c : tie.After-by-station) → c.by-station.result * 15 + entry_size ≡ stretch_size c.before.args.m
+sum c = ap (λ (k : ℕ). k * 15 + entry_size) c.by-station.ensures
 
 sub-result : tie.Need-overflow-sub-result
 sub-result c = search rules

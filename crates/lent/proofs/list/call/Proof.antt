@@ -57,8 +57,8 @@ use denote.Exit.{yes}
 use Rattle.tree.specs.declared.Reach.{Reach}
 use Rattle.lent.specs.declared.list.Called.{Called}
 use Rattle.lent.specs.declared.list.Filling.{Filling}
-use Rattle.lent.specs.Lists.{recordsAfterCall}
-use Rattle.lent.specs.inner.Filling.{reachAt, filled, FillsList}
+use Rattle.lent.specs.Lists.{records_after_call}
+use Rattle.lent.specs.Inner.Filling.{reach_at, filled, FillsList}
 use Rattle.lent.proofs.Walks.{there, copied}
 use Rattle.lent.proofs.Filled.{filled_none, filled-length, filled_more}
 use Rattle.tree.specs.contracts.Reach as R
@@ -104,8 +104,8 @@ byte = ty_int w8
 abbrev list_ty : Ty
 list_ty = slice_ty (ty_ref (named 1) mut (pointee (R.the_row).written))
 
-abbrev netTy : Ty
-netTy = slice_ty (ty_ref (named 0) imm byte)
+abbrev net_ty : Ty
+net_ty = slice_ty (ty_ref (named 0) imm byte)
 
 -- the machine values of the records
 abbrev reach-val : Reach → Val
@@ -211,13 +211,13 @@ module _ {M : Type 1} {𝓤 : Ura M} (𝓛 : Logic 𝓤) (at_mem : Memory → SP
     entry-ensured i r = ensured 𝓛 ra.ended (ra.clauses 𝓛 at_mem run) tt (k, (i, tt)) tt r
 
     abbrev Entry : ℕ → Reach → Type 0
-    Entry i r = r ≡ reachAt k.bytes i
+    Entry i r = r ≡ reach_at k.bytes i
 
     entry-said : (i : ℕ) (r : Reach) → ent 𝓤 (entry-ensured i r) (fact 𝓤 (Entry i r))
     entry-said i r = ex_e 𝓤 _ (λ ws. snd∗ 𝓤 (sem 𝓛 (lasts ra.ended tt (k, (i, tt)) ws)) (fact 𝓤 (Entry i r)))
 
     -- ---- the end
-    ends : (i : ℕ) → i ≤ m → m ≤ i → L i ≡ recordsAfterCall x.now g c xs
+    ends : (i : ℕ) → i ≤ m → m ≤ i → L i ≡ records_after_call x.now g c xs
     ends i le ge = let e : i ≡ m = omega arith in ap L e ∙ ke.after xs refl
 
     -- what the list's borrow says of it, filled to i
@@ -264,7 +264,7 @@ module _ {M : Type 1} {𝓤 : Ura M} (𝓛 : Logic 𝓤) (at_mem : Memory → SP
 
       abbrev En : Env 𝓤 H
       En =
-          (An'.mir, l₀) ∷ (netTy, l₁) ∷ (byte, l₂) ∷ (byte, l₃) ∷ (list_ty, l₄) ∷ (K'.mir, l₅) ∷ (word, l₆) ∷ (word, l₇) ∷ (word, l₈)
+          (An'.mir, l₀) ∷ (net_ty, l₁) ∷ (byte, l₂) ∷ (byte, l₃) ∷ (list_ty, l₄) ∷ (K'.mir, l₅) ∷ (word, l₆) ∷ (word, l₇) ∷ (word, l₈)
           ∷ (ty_bool, l₉) ∷ (R'.mir, l₁₀) ∷ (word, l₁₁) ∷ (ty_ptr, l₁₂) ∷ []
 
       -- the locals of the loop's body
@@ -279,7 +279,7 @@ module _ {M : Type 1} {𝓤 : Ura M} (𝓛 : Logic 𝓤) (at_mem : Memory → SP
           ‵ (fat full_share K'.mir l₅ 0 (filling-val k)) ∷ ‵ (fdies K'.mir l₅)
           ∷ ‵ (fat full_share list_ty l₄ 0 s) ∷ ‵ (fdies list_ty l₄)
           ∷ ‵ (fat full_share byte l₃ 0 (vint w8 c)) ∷ ‵ (fdies byte l₃) ∷ ‵ (fat full_share byte l₂ 0 (vint w8 g)) ∷ ‵ (fdies byte l₂)
-          ∷ ‵ (fat full_share netTy l₁ 0 t) ∷ ‵ (fdies netTy l₁) ∷ ‵ (froom An'.mir l₀ 0) ∷ ‵ (fdies An'.mir l₀) ∷ []
+          ∷ ‵ (fat full_share net_ty l₁ 0 t) ∷ ‵ (fdies net_ty l₁) ∷ ‵ (froom An'.mir l₀ 0) ∷ ‵ (fdies An'.mir l₀) ∷ []
 
       abbrev At : Upto → List (Item 𝓤)
       At i =

@@ -1,5 +1,5 @@
 use mathlib.Core.Path.{refl}
-use Rattle.lent.specs.inner.Filling.{reachAt}
+use Rattle.lent.specs.Inner.Filling.{reach_at}
 use borrow.Author.Rules.{rules}
 use Rattle.lent.proofs.list.reach_at.Statement.{statement}
 use Rattle.lent.proofs.list.reach_at.Tie as tie
@@ -23,7 +23,7 @@ array-read-t15 : tie.Need-array-read-t15
 array-read-t15 c = search rules
 
 returns : tie.Need-returns
-unfolding reachAt
+unfolding reach_at
 returns c = refl
 
 pub reach-at-spec : {M : Type 1} → statement M

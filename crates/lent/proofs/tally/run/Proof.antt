@@ -45,7 +45,7 @@ use denote.Triple.Table.{entered, cited}
 use denote.Triple.Walked.{says, Stays, stay_ref, stay_none_slice, gave_slice, Goes-ref, Goes-none_slice, Goes-gave_slice}
 use denote.Triple.Walked.{walk_of, Walks, ends_at, walked, walk_Meets}
 use denote.Exit.{yes}
-use Rattle.run.specs.Runs.{runAnswer, netAfterRun}
+use Rattle.run.specs.Runs.{run_answer, net_after_run}
 use Rattle.run.specs.declared.Answer.{Answer}
 use Rattle.protocol.specs.declared.Tally.{Tally}
 use Rattle.lent.proofs.Walks.{there, copied}
@@ -84,17 +84,17 @@ answer-val = LL.val R.the_type R'.the_laws
 abbrev byte : Ty
 byte = ty_int w8
 
-abbrev netTy : Ty
-netTy = slice_ty (ty_ref (named 0) mut byte)
+abbrev net_ty : Ty
+net_ty = slice_ty (ty_ref (named 0) mut byte)
 
-abbrev scriptTy : Ty
-scriptTy = slice_ty (ty_ref (named 1) imm byte)
+abbrev script_ty : Ty
+script_ty = slice_ty (ty_ref (named 1) imm byte)
 
-abbrev tallyTy : Ty
-tallyTy = ty_ref (named 2) mut (pointee (T.the_row).written)
+abbrev tally_ty : Ty
+tally_ty = ty_ref (named 2) mut (pointee (T.the_row).written)
 
-abbrev lentTy : Ty
-lentTy = ty_ref erased mut byte
+abbrev lent_ty : Ty
+lent_ty = ty_ref erased mut byte
 
 -- the contracts that the proof cites
 module _ {M : Type 1} {𝓤 : Ura M} (𝓛 : Logic 𝓤) (mem : Memory → SProp 𝓤) (run : Routine → Fun 𝓤) where
@@ -156,7 +156,7 @@ module _ {M : Type 1} {𝓤 : Ura M} (𝓛 : Logic 𝓤) (at_mem : Memory → SP
 
   -- what it tells of its answer and of the net that it leaves
   abbrev Told : Answer → List ℕ → Type 0
-  Told r zs = (r ≡ runAnswer x.now y.now true) × (zs ≡ netAfterRun x.now y.now true)
+  Told r zs = (r ≡ run_answer x.now y.now true) × (zs ≡ net_after_run x.now y.now true)
 
   -- ---- the call of `set_anew`, with the answer r
   module _ (r : Answer) where
@@ -209,17 +209,17 @@ module _ {M : Type 1} {𝓤 : Ura M} (𝓛 : Logic 𝓤) (at_mem : Memory → SP
         (known : Triple 𝓤 (C #set-anew) (Anew 𝓛 at_mem run)) (l₀ l₁ l₂ l₃ l₄ l₅ l₆ l₇ l₈ : ℕ) where
       abbrev En : Env 𝓤 H
       En =
-          (byte, l₀) ∷ (netTy, l₁) ∷ (scriptTy, l₂) ∷ (tallyTy, l₃) ∷ (R'.mir, l₄) ∷ (lentTy, l₅) ∷ (slice_ty lentTy, l₆)
+          (byte, l₀) ∷ (net_ty, l₁) ∷ (script_ty, l₂) ∷ (tally_ty, l₃) ∷ (R'.mir, l₄) ∷ (lent_ty, l₅) ∷ (slice_ty lent_ty, l₆)
           ∷ (T'.mir, l₇) ∷ (T'.mir, l₈) ∷ []
 
       abbrev Ran-at : List (Item 𝓤)
       Ran-at =
           ‵ (froom T'.mir l₈ 0) ∷ ‵ (fdies T'.mir l₈) ∷ ‵ (froom T'.mir l₇ 0) ∷ ‵ (fdies T'.mir l₇)
-          ∷ ‵ (froom (slice_ty lentTy) l₆ 0) ∷ ‵ (fdies (slice_ty lentTy) l₆) ∷ ‵ (froom lentTy l₅ 0) ∷ ‵ (fdies lentTy l₅)
+          ∷ ‵ (froom (slice_ty lent_ty) l₆ 0) ∷ ‵ (fdies (slice_ty lent_ty) l₆) ∷ ‵ (froom lent_ty l₅ 0) ∷ ‵ (fdies lent_ty l₅)
           ∷ ‵ (fat full_share R'.mir l₄ 0 (answer-val r)) ∷ ‵ (fdies R'.mir l₄)
-          ∷ ‵ (fat full_share tallyTy l₃ 0 (vptr b o)) ∷ ‵ (fdies tallyTy l₃)
-          ∷ ‵ (fat full_share scriptTy l₂ 0 t) ∷ ‵ (fdies scriptTy l₂)
-          ∷ ‵ (fat full_share netTy l₁ 0 s) ∷ ‵ (fdies netTy l₁) ∷ ‵ (froom byte l₀ 0) ∷ ‵ (fdies byte l₀)
+          ∷ ‵ (fat full_share tally_ty l₃ 0 (vptr b o)) ∷ ‵ (fdies tally_ty l₃)
+          ∷ ‵ (fat full_share script_ty l₂ 0 t) ∷ ‵ (fdies script_ty l₂)
+          ∷ ‵ (fat full_share net_ty l₁ 0 s) ∷ ‵ (fdies net_ty l₁) ∷ ‵ (froom byte l₀ 0) ∷ ‵ (fdies byte l₀)
           ∷ ‵ (fobs γ ((T.the_row).coded.code h)) ∷ ‵ (fbor κ₂ (Body (mem T.the_row) b o γ)) ∷ ‵ (flft κ₂ q₂)
           ∷ ‵ OwnY ∷ Tokens ∷ ‵ (finally u8 x.name zs) ∷ []
 

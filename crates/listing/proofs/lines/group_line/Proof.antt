@@ -2,7 +2,7 @@ use mathlib.Core.Path.{refl, sym}
 use native.Mathlib.Omega.{arith}
 use Rattle.text.specs.Text.{text}
 use Rattle.text.proofs.Puts.{within_of, ◌then◌}
-use Rattle.listing.specs.Lines.{groupLine}
+use Rattle.listing.specs.Lines.{group_line}
 use Rattle.listing.proofs.lines.group_line.Statement.{statement}
 use Rattle.listing.proofs.lines.group_line.Tie as tie
 
@@ -34,7 +34,7 @@ same_length : tie.Need-same-length
 same_length c = omega arith
 
 returns : tie.Need-returns
-unfolding groupLine text
+unfolding group_line text
 returns c =
     let y = c.before.before.before.before.before in
     let x = y.before.before.before in

@@ -2,14 +2,14 @@ use Prim.Native.Nat.{◌≤◌, ◌-◌, ◌*◌}
 use native.Mathlib.Omega.{arith}
 use Rattle.net.specs.View.{view}
 use Rattle.text.specs.Text.{row, each}
-use Rattle.text.specs.inner.Within.{WroteWithin}
+use Rattle.text.specs.Inner.Within.{WroteWithin}
 use Rattle.text.proofs.Puts.{within_none, ◌then◌, row_more, row-all}
-use Rattle.listing.specs.Lines.{groupText}
+use Rattle.listing.specs.Lines.{group_text}
 use Rattle.listing.proofs.lines.group_texts.Statement.{statement}
 use Rattle.listing.proofs.lines.group_texts.Tie as tie
 
 abbrev invariant-loop : tie.invariant-loop
-invariant-loop net out₀ at n next₀ g₀ out next g = (g ≤ n) × WroteWithin (4087 * g) out₀ out at next (each g (groupText (view net)))
+invariant-loop net out₀ at n next₀ g₀ out next g = (g ≤ n) × WroteWithin (4087 * g) out₀ out at next (each g (group_text (view net)))
 
 abbrev decreases-loop : tie.decreases-loop
 decreases-loop net out₀ at n next₀ g₀ out next g = n - g
@@ -39,7 +39,7 @@ loop-less : tie.Need-loop-smaller invariant-loop decreases-loop
 loop-less c = omega arith
 
 loop-again : tie.Need-loop-preserved invariant-loop decreases-loop
-unfolding groupText
+unfolding group_text
 loop-again c =
     let x = c.before.before.before.before.before.before in
     (omega arith, row_more _ _ x.before.before.before.loop.invariant.1 (x.group-line.ensures then c.before.before.station-lines.ensures))

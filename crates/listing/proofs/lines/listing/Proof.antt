@@ -1,7 +1,7 @@
 use mathlib.Core.Path.{◌≡◌}
 use Prim.Native.Nat.{◌-◌}
 use native.Mathlib.Omega.{arith}
-use Rattle.protocol.specs.Net.{inChannels}
+use Rattle.protocol.specs.Net.{in_channels}
 use Rattle.net.specs.View.{view}
 use Rattle.text.proofs.Puts.{◌then◌}
 use Rattle.listing.specs.Lines.{listing}
@@ -37,7 +37,7 @@ returns c =
     let ran = heard.before.before.before.before in
     let a = start ran in
     let t = a.args.t in
-    let left : t.sent - t.delivered - t.lost ≡ inChannels (view a.args.net.now) = omega (arith, a.pre) in
+    let left : t.sent - t.delivered - t.lost ≡ in_channels (view a.args.net.now) = omega (arith, a.pre) in
     rw (← left) (ran.run-line.ensures then heard.replies-line.ensures then c.before.before.group-texts.ensures)
 
 pub listing-spec : {M : Type 1} → statement M

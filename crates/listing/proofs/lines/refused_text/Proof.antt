@@ -1,7 +1,7 @@
 use mathlib.Core.Path.{refl}
 use native.Mathlib.Omega.{arith}
 use Rattle.text.specs.Text.{text}
-use Rattle.listing.specs.Lines.{refusedText}
+use Rattle.listing.specs.Lines.{refused_text}
 use Rattle.listing.proofs.lines.refused_text.Statement.{statement}
 use Rattle.listing.proofs.lines.refused_text.Tie as tie
 
@@ -15,7 +15,7 @@ same_length : tie.Need-same-length
 same_length c = omega arith
 
 returns : tie.Need-returns
-unfolding refusedText text
+unfolding refused_text text
 returns c = c.before.before.put-filled-one.ensures
 
 pub refused-text-spec : {M : Type 1} → statement M

@@ -2,7 +2,7 @@ use mathlib.Core.Path.{refl}
 use native.Mathlib.Omega.{arith}
 use Rattle.protocol.specs.Runs.{case_count}
 use Rattle.text.specs.Text.{text}
-use Rattle.listing.specs.Lines.{repliesLine}
+use Rattle.listing.specs.Lines.{replies_line}
 use Rattle.listing.proofs.lines.replies_line.Statement.{statement}
 use Rattle.listing.proofs.lines.replies_line.Tie as tie
 
@@ -19,7 +19,7 @@ same_length : tie.Need-same-length
 same_length c = omega arith
 
 returns : tie.Need-returns
-unfolding repliesLine case_count text
+unfolding replies_line case_count text
 returns c = c.before.before.put-filled.ensures
 
 pub replies-line-spec : {M : Type 1} → statement M

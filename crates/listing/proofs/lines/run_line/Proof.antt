@@ -1,7 +1,7 @@
 use mathlib.Core.Path.{refl}
 use native.Mathlib.Omega.{arith}
 use Rattle.text.specs.Text.{text}
-use Rattle.listing.specs.Lines.{runLine}
+use Rattle.listing.specs.Lines.{run_line}
 use Rattle.listing.proofs.lines.run_line.Statement.{statement}
 use Rattle.listing.proofs.lines.run_line.Tie as tie
 
@@ -18,7 +18,7 @@ same_length : tie.Need-same-length
 same_length c = omega arith
 
 returns : tie.Need-returns
-unfolding runLine text
+unfolding run_line text
 returns c = c.before.before.put-filled.ensures
 
 pub run-line-spec : {M : Type 1} → statement M

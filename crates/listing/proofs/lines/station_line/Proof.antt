@@ -2,7 +2,7 @@ use native.Mathlib.Omega.{arith}
 use mathlib.Core.Path.{refl, sym}
 use Rattle.text.specs.Text.{text}
 use Rattle.text.proofs.Puts.{◌then◌}
-use Rattle.listing.specs.Lines.{stationLine}
+use Rattle.listing.specs.Lines.{station_line}
 use Rattle.listing.proofs.lines.station_line.Statement.{statement}
 use Rattle.listing.proofs.lines.station_line.Tie as tie
 
@@ -34,7 +34,7 @@ same_length : tie.Need-same-length
 same_length c = omega arith
 
 returns : tie.Need-returns
-unfolding stationLine text
+unfolding station_line text
 returns c =
     let z = c.before.before in
     let y = z.before.before.before.before in

@@ -2,14 +2,14 @@ use Prim.Native.Nat.{◌≤◌, ◌-◌, ◌*◌}
 use native.Mathlib.Omega.{arith}
 use Rattle.net.specs.View.{view}
 use Rattle.text.specs.Text.{row, each}
-use Rattle.text.specs.inner.Within.{WroteWithin}
+use Rattle.text.specs.Inner.Within.{WroteWithin}
 use Rattle.text.proofs.Puts.{within_none, row_more, row-all}
-use Rattle.listing.specs.Lines.{stationLine}
+use Rattle.listing.specs.Lines.{station_line}
 use Rattle.listing.proofs.lines.station_lines.Statement.{statement}
 use Rattle.listing.proofs.lines.station_lines.Tie as tie
 
 abbrev invariant-loop : tie.invariant-loop
-invariant-loop net g out₀ at n next₀ p₀ out next p = (p ≤ n) × WroteWithin (251 * p) out₀ out at next (each p (stationLine (view net) g))
+invariant-loop net g out₀ at n next₀ p₀ out next p = (p ≤ n) × WroteWithin (251 * p) out₀ out at next (each p (station_line (view net) g))
 
 abbrev decreases-loop : tie.decreases-loop
 decreases-loop net g out₀ at n next₀ p₀ out next p = n - p

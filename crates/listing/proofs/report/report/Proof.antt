@@ -2,7 +2,7 @@ use mathlib.Core.Path.{refl, sym, ◌∙◌}
 use Prim.Native.Nat.{◌≤◌}
 use native.Mathlib.Omega.{arith}
 use lib.ListN.{length}
-use Rattle.layout.specs.Layout.{planLength}
+use Rattle.layout.specs.Layout.{plan_length}
 use Rattle.text.proofs.Puts.{within-as}
 use Rattle.listing.proofs.Benches.{long-enough, refused, rest-lent, Listed, listed}
 use Rattle.listing.proofs.report.report.Statement.{statement}
@@ -12,7 +12,7 @@ use Rattle.listing.proofs.report.report.Tie as tie
 abbrev accepted : tie.Else1 → tie.Start
 accepted x = x.before.before.before.before.before.before
 
-long : (x : tie.Else1) → planLength ≤ length (accepted x).args.stored.now
+long : (x : tie.Else1) → plan_length ≤ length (accepted x).args.stored.now
 long x = long-enough _ _ (sym x.before.before.stored-outcome.ensures.0 ∙ x.if1.false)
 
 abbrev start : tie.After-run → tie.Start

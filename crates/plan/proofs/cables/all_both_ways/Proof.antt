@@ -3,12 +3,12 @@ use Prim.Native.Nat.{◌≤◌, ◌-◌}
 use native.Mathlib.Omega.{arith}
 use Rattle.bits.specs.Below.{all_below}
 use Rattle.bits.proofs.Below.{all_none, all_more, all_done}
-use Rattle.plan.specs.Planned.{bothWays}
+use Rattle.plan.specs.Planned.{both_ways}
 use Rattle.plan.proofs.cables.all_both_ways.Statement.{statement}
 use Rattle.plan.proofs.cables.all_both_ways.Tie as tie
 
 abbrev invariant-loop : tie.invariant-loop
-invariant-loop s n p ok₀ q₀ ok q = (q ≤ n) × (ok ≡ all_below q (bothWays s p))
+invariant-loop s n p ok₀ q₀ ok q = (q ≤ n) × (ok ≡ all_below q (both_ways s p))
 
 abbrev decreases-loop : tie.decreases-loop
 decreases-loop s n p ok₀ q₀ ok q = n - q

@@ -2,7 +2,7 @@ use mathlib.Core.Path.{ap, ap₂, ◌∙◌}
 use mathlib.Core.Bool.{Bool, not, ◌||◌}
 use Prim.Native.Nat.{ℕ}
 use Rattle.bits.specs.Masks.{has}
-use Rattle.plan.specs.Planned.{bothWays}
+use Rattle.plan.specs.Planned.{both_ways}
 use borrow.Author.Rules.{rules}
 use Rattle.plan.proofs.cables.both_ways.Statement.{statement}
 use Rattle.plan.proofs.cables.both_ways.Tie as tie
@@ -20,7 +20,7 @@ has-at-requires-2 : tie.Need-has-at-requires-2
 has-at-requires-2 c κs = search rules
 
 returns : tie.Need-returns
-unfolding bothWays
+unfolding both_ways
 returns c = let x = c.before.before in
     let a = x.before.before.before.args in
     ap₂ (λ (here there : Bool). not here || there)

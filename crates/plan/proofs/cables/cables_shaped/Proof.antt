@@ -4,12 +4,12 @@ use native.Mathlib.Omega.{arith}
 use Rattle.bits.specs.Below.{all_below}
 use Rattle.bits.proofs.Below.{all_none, all_more}
 use Rattle.layout.proofs.Bounded.{table_done}
-use Rattle.plan.specs.Planned.{stationCabled}
+use Rattle.plan.specs.Planned.{station_cabled}
 use Rattle.plan.proofs.cables.cables_shaped.Statement.{statement}
 use Rattle.plan.proofs.cables.cables_shaped.Tie as tie
 
 abbrev invariant-loop : tie.invariant-loop
-invariant-loop s n ok₀ p₀ ok p = (p ≤ n) × (ok ≡ all_below p (stationCabled s n))
+invariant-loop s n ok₀ p₀ ok p = (p ≤ n) × (ok ≡ all_below p (station_cabled s n))
 
 abbrev decreases-loop : tie.decreases-loop
 decreases-loop s n ok₀ p₀ ok p = n - p

@@ -1,4 +1,4 @@
-use Rattle.plan.specs.Planned.{stationCabled}
+use Rattle.plan.specs.Planned.{station_cabled}
 use borrow.Author.Rules.{rules}
 use Rattle.plan.proofs.cables.station_cabled.Statement.{statement}
 use Rattle.plan.proofs.cables.station_cabled.Tie as tie
@@ -16,7 +16,7 @@ all-both-ways-requires : tie.Need-all-both-ways-requires
 all-both-ways-requires c κs = search rules
 
 returns : tie.Need-returns
-unfolding stationCabled
+unfolding station_cabled
 returns c = cc
 
 pub station-cabled-spec : {M : Type 1} → statement M

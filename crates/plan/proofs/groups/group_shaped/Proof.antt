@@ -2,15 +2,15 @@ use mathlib.Core.Path.{◌≡◌, ap, ap₂, ◌∙◌}
 use mathlib.Core.Bool.{Bool, ◌&&◌}
 use Prim.Native.Nat.{ℕ, ◌+◌}
 use lib.Dec.{ltb, leb}
-use Rattle.layout.specs.Layout.{nameLength}
+use Rattle.layout.specs.Layout.{name_length}
 use Rattle.layout.specs.Bounded.{zeros}
 use borrow.Author.Tests.{lt-leb, le-leb}
-use Rattle.plan.specs.Planned.{groupShaped}
+use Rattle.plan.specs.Planned.{group_shaped}
 use borrow.Author.Rules.{rules}
 use Rattle.plan.proofs.groups.group_shaped.Statement.{statement}
 use Rattle.plan.proofs.groups.group_shaped.Tie as tie
 
-long : (x : tie.After-wide) → let a = x.before.before.before.args in x.wide.result ≡ nameLength a.s.now a.g
+long : (x : tie.After-wide) → let a = x.before.before.before.args in x.wide.result ≡ name_length a.s.now a.g
 long x = x.wide.ensures.0 ∙ x.before.name-length.ensures
 
 name-length-requires : tie.Need-name-length-requires
@@ -20,7 +20,7 @@ wide-requires : tie.Need-wide-requires
 wide-requires c κs = search rules
 
 returns : tie.Need-returns
-unfolding groupShaped
+unfolding group_shaped
 returns c = simp (← long c.before, lt-leb _ _ c.if1.true)
 
 group-at-requires : tie.Need-group-at-requires
@@ -45,7 +45,7 @@ wide-requires-2 : tie.Need-wide-requires-2
 wide-requires-2 c κs = search rules
 
 returns-2 : tie.Need-returns-2
-unfolding groupShaped
+unfolding group_shaped
 returns-2 c = let z = c.before.before in
     let x = z.before.before.before in
     let a = x.before.before.before.args in

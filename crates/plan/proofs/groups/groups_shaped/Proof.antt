@@ -4,12 +4,12 @@ use native.Mathlib.Omega.{arith}
 use Rattle.bits.specs.Below.{all_below}
 use Rattle.bits.proofs.Below.{all_none, all_more}
 use Rattle.layout.proofs.Bounded.{table_done}
-use Rattle.plan.specs.Planned.{groupShaped}
+use Rattle.plan.specs.Planned.{group_shaped}
 use Rattle.plan.proofs.groups.groups_shaped.Statement.{statement}
 use Rattle.plan.proofs.groups.groups_shaped.Tie as tie
 
 abbrev invariant-loop : tie.invariant-loop
-invariant-loop s n g ok₀ k₀ ok k = (k ≤ g) × (ok ≡ all_below k (groupShaped s n))
+invariant-loop s n g ok₀ k₀ ok k = (k ≤ g) × (ok ≡ all_below k (group_shaped s n))
 
 abbrev decreases-loop : tie.decreases-loop
 decreases-loop s n g ok₀ k₀ ok k = g - k

@@ -1,4 +1,4 @@
-use Rattle.plan.specs.Planned.{headerShaped}
+use Rattle.plan.specs.Planned.{header_shaped}
 use borrow.Author.Rules.{rules}
 use Rattle.plan.proofs.groups.header_shaped.Statement.{statement}
 use Rattle.plan.proofs.groups.header_shaped.Tie as tie
@@ -25,7 +25,7 @@ shared-slice-read-result-2 : tie.Need-shared-slice-read-result-2
 shared-slice-read-result-2 c = search rules
 
 returns : tie.Need-returns
-unfolding headerShaped
+unfolding header_shaped
 returns c = cc
 
 pub header-shaped-spec : {M : Type 1} → statement M

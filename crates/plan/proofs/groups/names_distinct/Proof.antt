@@ -3,12 +3,12 @@ use Prim.Native.Nat.{◌≤◌, ◌-◌}
 use native.Mathlib.Omega.{arith}
 use Rattle.bits.specs.Below.{all_below}
 use Rattle.bits.proofs.Below.{all_none, all_more, all_done}
-use Rattle.plan.specs.Planned.{newName, namesDistinct}
+use Rattle.plan.specs.Planned.{new_name, names_distinct}
 use Rattle.plan.proofs.groups.names_distinct.Statement.{statement}
 use Rattle.plan.proofs.groups.names_distinct.Tie as tie
 
 abbrev invariant-loop : tie.invariant-loop
-invariant-loop s g ok₀ a₀ ok a = (a ≤ g) × (ok ≡ all_below a (newName s))
+invariant-loop s g ok₀ a₀ ok a = (a ≤ g) × (ok ≡ all_below a (new_name s))
 
 abbrev decreases-loop : tie.decreases-loop
 decreases-loop s g ok₀ a₀ ok a = g - a
@@ -29,7 +29,7 @@ loop-again : tie.Need-loop-preserved invariant-loop decreases-loop
 loop-again c = (omega arith, all_more _ c.before.before.loop.invariant.1 c.new-name.ensures)
 
 returns : tie.Need-returns invariant-loop decreases-loop
-unfolding namesDistinct
+unfolding names_distinct
 returns c = all_done _ c.before.loop.invariant.0 c.loop-test.false c.before.loop.invariant.1
 
 pub names-distinct-spec : {M : Type 1} → statement M

@@ -4,12 +4,12 @@ use Prim.Native.Nat.{◌≤◌, ◌-◌}
 use native.Mathlib.Omega.{arith}
 use Rattle.bits.specs.Below.{all_below}
 use Rattle.bits.proofs.Below.{all_none, all_more, all_done}
-use Rattle.plan.specs.Planned.{sameNames, newName}
+use Rattle.plan.specs.Planned.{same_names, new_name}
 use Rattle.plan.proofs.groups.new_name.Statement.{statement}
 use Rattle.plan.proofs.groups.new_name.Tie as tie
 
 abbrev invariant-loop : tie.invariant-loop
-invariant-loop s a ok₀ b₀ ok b = (b ≤ a) × (ok ≡ all_below b (λ j. not (sameNames s a j)))
+invariant-loop s a ok₀ b₀ ok b = (b ≤ a) × (ok ≡ all_below b (λ j. not (same_names s a j)))
 
 abbrev decreases-loop : tie.decreases-loop
 decreases-loop s a ok₀ b₀ ok b = a - b
@@ -30,7 +30,7 @@ loop-again : tie.Need-loop-preserved invariant-loop decreases-loop
 loop-again c = (omega arith, all_more _ c.before.before.loop.invariant.1 (ap not c.same_names.ensures))
 
 returns : tie.Need-returns invariant-loop decreases-loop
-unfolding newName
+unfolding new_name
 returns c = all_done _ c.before.loop.invariant.0 c.loop-test.false c.before.loop.invariant.1
 
 pub new-name-spec : {M : Type 1} → statement M

@@ -1,4 +1,4 @@
-use Rattle.plan.specs.Planned.{sameNames}
+use Rattle.plan.specs.Planned.{same_names}
 use borrow.Author.Rules.{rules}
 use Rattle.plan.proofs.groups.same_names.Statement.{statement}
 use Rattle.plan.proofs.groups.same_names.Tie as tie
@@ -13,7 +13,7 @@ same-requires : tie.Need-same-requires
 same-requires c κs = search rules
 
 returns : tie.Need-returns
-unfolding sameNames
+unfolding same_names
 returns c = cc
 
 pub same-names-spec : {M : Type 1} → statement M

@@ -1,13 +1,13 @@
 use native.Mathlib.Omega.{arith}
 use borrow.Author.Tests.{ne_eqb}
-use Rattle.plan.specs.Planned.{planShaped}
+use Rattle.plan.specs.Planned.{plan_shaped}
 use Rattle.plan.proofs.Plans.{plan-is}
 use borrow.Author.Rules.{rules}
 use Rattle.plan.proofs.whole.plan_shaped.Statement.{statement}
 use Rattle.plan.proofs.whole.plan_shaped.Tie as tie
 
 returns : tie.Need-returns
-unfolding planShaped
+unfolding plan_shaped
 returns c = simp (ne_eqb _ _ c.if1.true)
 
 cast-planned : tie.Need-overflow-cast-planned

@@ -1,16 +1,16 @@
 use native.Mathlib.Omega.{arith}
 use mathlib.Core.Path.{◌≡◌}
 use Prim.Native.Nat.{◌≤◌, ◌-◌}
-use Rattle.layout.specs.Layout.{neighbours, channelAt}
+use Rattle.layout.specs.Layout.{neighbours, channel_at}
 use Rattle.bits.specs.Below.{all_below}
 use Rattle.bits.proofs.Below.{all_none, all_more}
 use Rattle.layout.proofs.Bounded.{table_done}
-use Rattle.shape.specs.Shape.{channelShaped}
+use Rattle.shape.specs.Shape.{channel_shaped}
 use Rattle.shape.proofs.channels.channel_row_shaped.Statement.{statement}
 use Rattle.shape.proofs.channels.channel_row_shaped.Tie as tie
 
 abbrev invariant-loop : tie.invariant-loop
-invariant-loop s n g p m ok₀ d₀ ok d = (d ≤ n) × (ok ≡ all_below d (λ k. channelShaped (neighbours s p) g k s (channelAt p k)))
+invariant-loop s n g p m ok₀ d₀ ok d = (d ≤ n) × (ok ≡ all_below d (λ k. channel_shaped (neighbours s p) g k s (channel_at p k)))
 
 abbrev decreases-loop : tie.decreases-loop
 decreases-loop s n g p m ok₀ d₀ ok d = n - d

@@ -4,27 +4,27 @@ use Prim.Native.Nat.{ℕ, ◌+◌, ◌*◌}
 use native.Mathlib.Omega.{arith}
 use borrow.Author.Tests.{lt-leb, le-leb, ne_eqb}
 use Rattle.bits.specs.Below.{all_below}
-use Rattle.layout.specs.Layout.{byte, channelSize, messageSize}
+use Rattle.layout.specs.Layout.{byte, channel_size, message_size}
 use Rattle.layout.specs.Bounded.{zeros, table}
 use Rattle.protocol.specs.Net.{capacity}
-use Rattle.shape.specs.Shape.{countShaped, channelShaped}
+use Rattle.shape.specs.Shape.{count_shaped, channel_shaped}
 use borrow.Author.Rules.{rules}
 use Rattle.shape.proofs.channels.channel_shaped.Statement.{statement}
 use Rattle.shape.proofs.channels.channel_shaped.Tie as tie
 
 -- of a channel that holds nothing every other byte is zero, and that is all
-empty : (nb g d at : ℕ) (l : List ℕ) → byte l at ≡ 0 → zeros l (at + 1) (at + channelSize) ≡ channelShaped nb g d l at
-unfolding channelShaped countShaped table all_below
+empty : (nb g d at : ℕ) (l : List ℕ) → byte l at ≡ 0 → zeros l (at + 1) (at + channel_size) ≡ channel_shaped nb g d l at
+unfolding channel_shaped count_shaped table all_below
 empty nb g d at l none =
-    let start : at + 1 ≡ at + 1 + messageSize * 0 = omega arith in
-    let end : at + channelSize ≡ at + 1 + messageSize * capacity = omega arith in
+    let start : at + 1 ≡ at + 1 + message_size * 0 = omega arith in
+    let end : at + channel_size ≡ at + 1 + message_size * capacity = omega arith in
     rw none (ap₂ (zeros l) start end)
 
 shared-slice-read-count : tie.Need-shared-slice-read-count
 shared-slice-read-count c = search rules
 
 returns : tie.Need-returns
-unfolding channelShaped countShaped
+unfolding channel_shaped count_shaped
 returns c = simp (lt-leb _ _ c.if1.true)
 
 add-zeros : tie.Need-overflow-add-zeros
@@ -51,7 +51,7 @@ messages-shaped-requires : tie.Need-messages-shaped-requires
 messages-shaped-requires c κs = search rules
 
 returns-3 : tie.Need-returns-3
-unfolding channelShaped countShaped
+unfolding channel_shaped count_shaped
 returns-3 c = let x = c.before.before.before in
     simp (← c.before.wide.ensures.0, le-leb _ _ x.before.if1.false, ne_eqb _ _ x.if2.false) (cc)
 

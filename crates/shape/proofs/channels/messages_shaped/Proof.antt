@@ -1,17 +1,17 @@
 use native.Mathlib.Omega.{arith}
 use mathlib.Core.Path.{◌≡◌, ap, ◌∙◌}
 use Prim.Native.Nat.{◌≤◌, ◌-◌}
-use Rattle.layout.specs.Layout.{messageAt}
+use Rattle.layout.specs.Layout.{message_at}
 use Rattle.bits.specs.Below.{all_below}
 use Rattle.layout.specs.Bounded.{zeros}
 use Rattle.bits.proofs.Below.{all_none, all_more}
 use Rattle.layout.proofs.Bounded.{table_done}
-use Rattle.shape.specs.Shape.{messageShaped}
+use Rattle.shape.specs.Shape.{message_shaped}
 use Rattle.shape.proofs.channels.messages_shaped.Statement.{statement}
 use Rattle.shape.proofs.channels.messages_shaped.Tie as tie
 
 abbrev invariant-loop : tie.invariant-loop
-invariant-loop s at g m ok₀ i₀ ok i = (i ≤ m) × (ok ≡ all_below i (λ k. messageShaped g s (messageAt at k)))
+invariant-loop s at g m ok₀ i₀ ok i = (i ≤ m) × (ok ≡ all_below i (λ k. message_shaped g s (message_at at k)))
 
 abbrev decreases-loop : tie.decreases-loop
 decreases-loop s at g m ok₀ i₀ ok i = m - i

@@ -2,16 +2,16 @@ use native.Mathlib.Omega.{arith}
 use mathlib.Core.Path.{◌≡◌}
 use Prim.Native.Nat.{◌≤◌, ◌-◌}
 use native.Mathlib.Nat.{one-mul}
-use Rattle.layout.specs.Layout.{neighbours, routeAt}
+use Rattle.layout.specs.Layout.{neighbours, route_at}
 use Rattle.bits.specs.Below.{all_below}
 use Rattle.bits.proofs.Below.{all_none, all_more}
 use Rattle.layout.proofs.Bounded.{table_done}
-use Rattle.shape.specs.Shape.{routeShaped}
+use Rattle.shape.specs.Shape.{route_shaped}
 use Rattle.shape.proofs.routes.route_row_shaped.Statement.{statement}
 use Rattle.shape.proofs.routes.route_row_shaped.Tie as tie
 
 abbrev invariant-loop : tie.invariant-loop
-invariant-loop s n p m ok₀ d₀ ok d = (d ≤ n) × (ok ≡ all_below d (λ k. routeShaped (neighbours s p) p k s (routeAt p k)))
+invariant-loop s n p m ok₀ d₀ ok d = (d ≤ n) × (ok ≡ all_below d (λ k. route_shaped (neighbours s p) p k s (route_at p k)))
 
 abbrev decreases-loop : tie.decreases-loop
 decreases-loop s n p m ok₀ d₀ ok d = n - d

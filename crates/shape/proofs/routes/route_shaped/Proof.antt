@@ -4,7 +4,7 @@ use lib.Dec.{eqb}
 use Rattle.protocol.specs.Net.{nil}
 use Rattle.layout.specs.Layout.{byte}
 use Rattle.bits.specs.Below.{◌implies◌}
-use Rattle.shape.specs.Shape.{routeShaped}
+use Rattle.shape.specs.Shape.{route_shaped}
 use borrow.Author.Rules.{rules}
 use Rattle.shape.proofs.routes.route_shaped.Statement.{statement}
 use Rattle.shape.proofs.routes.route_shaped.Tie as tie
@@ -19,7 +19,7 @@ shared-slice-read-result : tie.Need-shared-slice-read-result
 shared-slice-read-result c = search rules
 
 returns : tie.Need-returns
-unfolding routeShaped
+unfolding route_shaped
 returns c = let a = c.before.before.before.before.args in
     ap (λ (near : Bool). near && (eqb a.p a.d implies eqb (byte a.s.now a.at) nil)) c.before.nil-or.ensures
 

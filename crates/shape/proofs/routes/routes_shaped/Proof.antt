@@ -4,12 +4,12 @@ use Prim.Native.Nat.{◌≤◌, ◌-◌}
 use Rattle.bits.specs.Below.{all_below}
 use Rattle.bits.proofs.Below.{all_none, all_more}
 use Rattle.layout.proofs.Bounded.{table_done}
-use Rattle.shape.specs.Shape.{routeRowShaped, routesShaped}
+use Rattle.shape.specs.Shape.{route_row_shaped, routes_shaped}
 use Rattle.shape.proofs.routes.routes_shaped.Statement.{statement}
 use Rattle.shape.proofs.routes.routes_shaped.Tie as tie
 
 abbrev invariant-loop : tie.invariant-loop
-invariant-loop s n ok₀ p₀ ok p = (p ≤ n) × (ok ≡ all_below p (routeRowShaped s n))
+invariant-loop s n ok₀ p₀ ok p = (p ≤ n) × (ok ≡ all_below p (route_row_shaped s n))
 
 abbrev decreases-loop : tie.decreases-loop
 decreases-loop s n ok₀ p₀ ok p = n - p
@@ -39,7 +39,7 @@ zeros-requires : tie.Need-zeros-requires invariant-loop decreases-loop
 zeros-requires c κs = omega arith
 
 returns : tie.Need-returns invariant-loop decreases-loop
-unfolding routesShaped
+unfolding routes_shaped
 returns c = table_done _ _ _ _ _ _ c.before.before.loop.invariant.0 c.before.loop-test.false c.before.before.loop.invariant.1 c.zeros.ensures
 
 pub routes-shaped-spec : {M : Type 1} → statement M

@@ -1,19 +1,19 @@
 use native.Mathlib.Omega.{arith}
 use mathlib.Core.Path.{◌≡◌}
 use Prim.Native.Nat.{◌≤◌, ◌-◌}
-use Rattle.protocol.specs.Net.{mostStations, mostGroups}
-use Rattle.layout.specs.Bounded.{gridPass}
+use Rattle.protocol.specs.Net.{most_stations, most_groups}
+use Rattle.layout.specs.Bounded.{grid_pass}
 use Rattle.bits.specs.Below.{all_below}
 use Rattle.bits.proofs.Below.{all_none, all_more, all_done}
-use Rattle.shape.specs.Shape.{entryCellShaped, entriesShaped}
+use Rattle.shape.specs.Shape.{entry_cell_shaped, entries_shaped}
 use Rattle.shape.proofs.station_entries.entries_shaped.Statement.{statement}
 use Rattle.shape.proofs.station_entries.entries_shaped.Tie as tie
 
 abbrev invariant-loop : tie.invariant-loop
-invariant-loop s m n g ok₀ k₀ ok k = (k ≤ mostGroups) × (ok ≡ all_below k (λ i. all_below mostStations (entryCellShaped s n m g i)))
+invariant-loop s m n g ok₀ k₀ ok k = (k ≤ most_groups) × (ok ≡ all_below k (λ i. all_below most_stations (entry_cell_shaped s n m g i)))
 
 abbrev decreases-loop : tie.decreases-loop
-decreases-loop s m n g ok₀ k₀ ok k = mostGroups - k
+decreases-loop s m n g ok₀ k₀ ok k = most_groups - k
 
 loop-holds : tie.Need-loop-init invariant-loop decreases-loop
 loop-holds c = (omega arith, all_none _)
@@ -31,7 +31,7 @@ loop-again : tie.Need-loop-preserved invariant-loop decreases-loop
 loop-again c = (omega arith, all_more _ c.before.before.loop.invariant.1 c.group-entries-shaped.ensures)
 
 returns : tie.Need-returns invariant-loop decreases-loop
-unfolding entriesShaped gridPass
+unfolding entries_shaped grid_pass
 returns c = all_done _ c.before.loop.invariant.0 c.loop-test.false c.before.loop.invariant.1
 
 pub entries-shaped-spec : {M : Type 1} → statement M

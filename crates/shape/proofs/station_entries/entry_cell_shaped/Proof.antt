@@ -1,11 +1,11 @@
 use mathlib.Core.Path.{sym, ◌∙◌}
 use Prim.Native.Nat.{◌+◌}
-use Rattle.protocol.specs.Net.{mostGroups, mostStations}
-use Rattle.layout.specs.Layout.{entrySize}
-use Rattle.layout.specs.Marks.{entryAt}
+use Rattle.protocol.specs.Net.{most_groups, most_stations}
+use Rattle.layout.specs.Layout.{entry_size}
+use Rattle.layout.specs.Marks.{entry_at}
 use Rattle.layout.specs.Bounded.{zeros, used}
 use Rattle.layout.proofs.Bounded.{cell-used, cell_free}
-use Rattle.shape.specs.Shape.{entryShaped, entryShapedAt}
+use Rattle.shape.specs.Shape.{entry_shaped, entry_shaped_at}
 use borrow.Author.Rules.{rules}
 use Rattle.shape.proofs.station_entries.entry_cell_shaped.Statement.{statement}
 use Rattle.shape.proofs.station_entries.entry_cell_shaped.Tie as tie
@@ -37,16 +37,16 @@ returns c = let x = c.before.before.before.before in
     let a = x.before.before.before.args in
     let root = c.before.wide.ensures.0 ∙ c.before.before.root.ensures in
     c.entry-shaped.ensures
-    ∙ (λ i. entryShaped (c.before.before.before.neighbours.ensures i) (root i) a.p a.s.now (x.before.entry_at.ensures.0 i))
-    ∙ sym (cell-used a.s.now (entryAt a.m) entrySize mostGroups mostStations a.g a.n (entryShapedAt a.s.now a.n a.m) a.k a.p x.if1.true)
+    ∙ (λ i. entry_shaped (c.before.before.before.neighbours.ensures i) (root i) a.p a.s.now (x.before.entry_at.ensures.0 i))
+    ∙ sym (cell-used a.s.now (entry_at a.m) entry_size most_groups most_stations a.g a.n (entry_shaped_at a.s.now a.n a.m) a.k a.p x.if1.true)
 
 returns-2 : tie.Need-returns-2
 unfolding used
 returns-2 c = let x = c.before in
     let a = x.before.before.before.args in
     let at = x.before.entry_at.ensures.0 in
-    c.zeros.ensures ∙ (λ i. zeros a.s.now (at i) (at i + entrySize))
-    ∙ sym (cell_free a.s.now (entryAt a.m) entrySize mostGroups mostStations a.g a.n (entryShapedAt a.s.now a.n a.m) a.k a.p x.if1.false)
+    c.zeros.ensures ∙ (λ i. zeros a.s.now (at i) (at i + entry_size))
+    ∙ sym (cell_free a.s.now (entry_at a.m) entry_size most_groups most_stations a.g a.n (entry_shaped_at a.s.now a.n a.m) a.k a.p x.if1.false)
 
 pub entry-cell-shaped-spec : {M : Type 1} → statement M
 entry-cell-shaped-spec =

@@ -1,4 +1,4 @@
-use Rattle.shape.specs.Shape.{entryShaped}
+use Rattle.shape.specs.Shape.{entry_shaped}
 use borrow.Author.Rules.{rules}
 use Rattle.shape.proofs.station_entries.entry_shaped.Statement.{statement}
 use Rattle.shape.proofs.station_entries.entry_shaped.Tie as tie
@@ -10,7 +10,7 @@ member-and-masks-shaped-requires : tie.Need-member-and-masks-shaped-requires
 member-and-masks-shaped-requires c κs = search rules
 
 returns : tie.Need-returns
-unfolding entryShaped
+unfolding entry_shaped
 returns c = cc
 
 pub entry-shaped-spec : {M : Type 1} → statement M

@@ -1,18 +1,18 @@
 use native.Mathlib.Omega.{arith}
 use mathlib.Core.Path.{◌≡◌}
 use Prim.Native.Nat.{◌≤◌, ◌-◌}
-use Rattle.protocol.specs.Net.{mostStations}
+use Rattle.protocol.specs.Net.{most_stations}
 use Rattle.bits.specs.Below.{all_below}
 use Rattle.bits.proofs.Below.{all_none, all_more, all_done}
-use Rattle.shape.specs.Shape.{entryCellShaped}
+use Rattle.shape.specs.Shape.{entry_cell_shaped}
 use Rattle.shape.proofs.station_entries.group_entries_shaped.Statement.{statement}
 use Rattle.shape.proofs.station_entries.group_entries_shaped.Tie as tie
 
 abbrev invariant-loop : tie.invariant-loop
-invariant-loop s m n g k ok₀ p₀ ok p = (p ≤ mostStations) × (ok ≡ all_below p (entryCellShaped s n m g k))
+invariant-loop s m n g k ok₀ p₀ ok p = (p ≤ most_stations) × (ok ≡ all_below p (entry_cell_shaped s n m g k))
 
 abbrev decreases-loop : tie.decreases-loop
-decreases-loop s m n g k ok₀ p₀ ok p = mostStations - p
+decreases-loop s m n g k ok₀ p₀ ok p = most_stations - p
 
 loop-holds : tie.Need-loop-init invariant-loop decreases-loop
 loop-holds c = (omega arith, all_none _)

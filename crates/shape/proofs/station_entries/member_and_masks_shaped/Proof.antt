@@ -3,9 +3,9 @@ use mathlib.Core.Bool.{Bool, ◌&&◌}
 use Prim.Native.Nat.{ℕ, ◌+◌}
 use lib.Dec.{eqb, leb}
 use Rattle.bits.specs.Masks.{within}
-use Rattle.protocol.specs.Net.{mostStations}
+use Rattle.protocol.specs.Net.{most_stations}
 use Rattle.layout.specs.Layout.{byte}
-use Rattle.shape.specs.Shape.{memberAndMasksShaped}
+use Rattle.shape.specs.Shape.{member_and_masks_shaped}
 use borrow.Author.Rules.{rules}
 use Rattle.shape.proofs.station_entries.member_and_masks_shaped.Statement.{statement}
 use Rattle.shape.proofs.station_entries.member_and_masks_shaped.Tie as tie
@@ -41,12 +41,12 @@ within-requires-2 : tie.Need-within-requires-2
 within-requires-2 c κs = search rules
 
 returns : tie.Need-returns
-unfolding memberAndMasksShaped
+unfolding member_and_masks_shaped
 returns c = let x = c.before.before in
     let a = x.before.before.before.before.before.args in
     ap₂ (λ (children waiting : Bool). leb (byte a.s.now (a.at + 2)) 1 && eqb (byte a.s.now (a.at + 3)) 0 && children && waiting)
-    (x.within.ensures ∙ ap (λ (k : ℕ). within mostStations k a.m) x.before.get16.ensures)
-    (c.within2.ensures ∙ ap (λ (k : ℕ). within mostStations k a.m) c.before.get162.ensures)
+    (x.within.ensures ∙ ap (λ (k : ℕ). within most_stations k a.m) x.before.get16.ensures)
+    (c.within2.ensures ∙ ap (λ (k : ℕ). within most_stations k a.m) c.before.get162.ensures)
 
 pub member-and-masks-shaped-spec : {M : Type 1} → statement M
 member-and-masks-shaped-spec =

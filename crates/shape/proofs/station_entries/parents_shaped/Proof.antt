@@ -5,7 +5,7 @@ use lib.Dec.{eqb}
 use Rattle.protocol.specs.Net.{nil}
 use Rattle.layout.specs.Layout.{byte}
 use Rattle.bits.specs.Below.{◌implies◌}
-use Rattle.shape.specs.Shape.{parentsShaped}
+use Rattle.shape.specs.Shape.{parents_shaped}
 use borrow.Author.Rules.{rules}
 use Rattle.shape.proofs.station_entries.parents_shaped.Statement.{statement}
 use Rattle.shape.proofs.station_entries.parents_shaped.Tie as tie
@@ -35,7 +35,7 @@ shared-slice-read-result-2 : tie.Need-shared-slice-read-result-2
 shared-slice-read-result-2 c = search rules
 
 returns : tie.Need-returns
-unfolding parentsShaped
+unfolding parents_shaped
 returns c = let x = c.before.before in
     let a = x.before.before.before.before.before.args in
     let l = a.s.now in

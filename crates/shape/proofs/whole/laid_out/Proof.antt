@@ -1,9 +1,9 @@
 use mathlib.Core.Path.{◌≡◌, sym, ap, ◌∙◌}
 use Prim.Native.Nat.{ℕ}
 use native.Mathlib.Omega.{arith}
-use Rattle.layout.specs.Layout.{netLength}
-use Rattle.plan.specs.Planned.{ofVersion1, netHeader, planned}
-use Rattle.shape.specs.Shape.{laidOut}
+use Rattle.layout.specs.Layout.{net_length}
+use Rattle.plan.specs.Planned.{of_version1, net_header, planned}
+use Rattle.shape.specs.Shape.{laid_out}
 use Rattle.shape.proofs.Nets.{planned-few}
 use borrow.Author.Rules.{rules}
 use Rattle.shape.proofs.whole.laid_out.Statement.{statement}
@@ -31,8 +31,8 @@ wide-requires-2 : tie.Need-wide-requires-2
 wide-requires-2 c κs = search rules
 
 -- the plan was tested with the mark's byte
-plan-is : (x : tie.After-planned) → let a = x.before.before.before.args in x.planned.result ≡ planned a.s.now (netHeader a.m)
-plan-is x = x.planned.ensures ∙ ap (λ (b : ℕ). planned x.before.before.before.args.s.now (ofVersion1 netLength b)) x.before.mark-byte.ensures
+plan-is : (x : tie.After-planned) → let a = x.before.before.before.args in x.planned.result ≡ planned a.s.now (net_header a.m)
+plan-is x = x.planned.ensures ∙ ap (λ (b : ℕ). planned x.before.before.before.args.s.now (of_version1 net_length b)) x.before.mark-byte.ensures
 
 routes-shaped-requires : tie.Need-routes-shaped-requires
 routes-shaped-requires c κs = omega (arith, planned-few _ _ (sym (plan-is c.before.before.before.before.before) ∙ c.before.before.before.before.if1.true))
@@ -44,11 +44,11 @@ channels-shaped-requires : tie.Need-channels-shaped-requires
 channels-shaped-requires c κs = omega (arith, planned-few _ _ (sym (plan-is c.before.before.before.before.before.before.before) ∙ c.before.before.before.before.before.before.if1.true))
 
 returns : tie.Need-returns
-unfolding laidOut
+unfolding laid_out
 returns c = simp (← plan-is c.before.before.before.before.before.before.before.before, c.before.before.before.before.before.before.before.if1.true) (cc)
 
 returns-2 : tie.Need-returns-2
-unfolding laidOut
+unfolding laid_out
 returns-2 c = simp (← plan-is c.before, c.if1.false)
 
 pub laid-out-spec : {M : Type 1} → statement M

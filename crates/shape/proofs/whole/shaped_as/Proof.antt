@@ -1,13 +1,13 @@
 use native.Mathlib.Omega.{arith}
 use borrow.Author.Tests.{ne_eqb}
-use Rattle.shape.specs.Shape.{shapedAs}
+use Rattle.shape.specs.Shape.{shaped_as}
 use Rattle.shape.proofs.Nets.{net-is}
 use borrow.Author.Rules.{rules}
 use Rattle.shape.proofs.whole.shaped_as.Statement.{statement}
 use Rattle.shape.proofs.whole.shaped_as.Tie as tie
 
 returns : tie.Need-returns
-unfolding shapedAs
+unfolding shaped_as
 returns c = simp (ne_eqb _ _ c.if1.true)
 
 laid-out-requires : tie.Need-laid-out-requires

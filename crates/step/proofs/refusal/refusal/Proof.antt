@@ -106,13 +106,13 @@ returns-5 c = let s = c.before.before.before.before in
     left s 5 refl e 4 c.or-operands2.ensures c.before.of-position.ensures.0 (is-3-or-4 _ refl refl (not_taken s 5 refl e))
 
 returns-6 : tie.Need-returns-6
-unfolding rule rules book.giveUp
+unfolding rule rules book.give_up
 returns-6 c = let s = c.before.before.before.before in
     let e = c.before.before.match.keys6 in
     left s 6 refl e 4 c.or-operands3.ensures c.before.of_pair.ensures.0 (is-3-or-4 _ refl refl (not_taken s 6 refl e))
 
 returns-7 : tie.Need-returns-7
-unfolding rule rules book.dropChild
+unfolding rule rules book.drop_child
 returns-7 c = let s = c.before.before.before.before in
     let e = c.before.before.match.keys7 in
     left s 7 refl e 4 c.or-operands4.ensures c.before.of-pair2.ensures.0 (is-3-or-4 _ refl refl (not_taken s 7 refl e))
