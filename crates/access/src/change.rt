@@ -32,7 +32,7 @@ pub fn write_entry(stretch: &mut [u8], at: usize, e: Entry)
 
 // Where a field of an entry is written: only the part of the net that starts at the group's entries, and ends with them, is lent on, and the
 // field stands so far into it.
-#[derive(Drop)]
+#[derive(Clone, Copy)]
 struct Field {
     start: usize,
     end: usize,

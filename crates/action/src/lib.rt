@@ -8,7 +8,7 @@ use protocol::Case;
 
 // What came of an action: it was refused; or it was accepted, and moved no message, sent one, answered a request, heard a reply of this
 // case, or lost one. Which number a refusal has is not told here: a run only counts it.
-#[derive(Drop)]
+#[derive(Clone, Copy)]
 pub enum Answer {
     Refused,
     Changed,

@@ -10,7 +10,7 @@ ghost use Rattle.visit.specs.Lists.{list_length};
 ghost use Rattle.call.specs.Answers.{CallEnd};
 
 // The answer: how many are reached and how many copies are made, or the number of a refusal.
-#[derive(Drop)]
+#[derive(Clone, Copy)]
 pub enum Answer {
     Reached(u8, u8),
     Refused(u8),

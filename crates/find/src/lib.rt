@@ -9,7 +9,7 @@ ghost use Rattle.access.specs.Inner.Nets.{IsNet};
 ghost use Rattle.find.specs.Answers.{answer_of, found_in};
 
 // The answer: the number of a group, or the number of a refusal.
-#[derive(Drop)]
+#[derive(Clone, Copy)]
 pub enum Answer {
     Group(u8),
     Refused(u8),

@@ -8,7 +8,7 @@ use crate::offset::{ENTRIES_AT, ENTRY_SIZE, GROUP_ENTRIES_SIZE, STATION_ENTRIES_
 use protocol::MOST_STATIONS;
 
 // The saved form has the entries by group, then station; the working form by station, then group.
-#[derive(Drop)]
+#[derive(Clone, Copy)]
 pub enum Mark {
     Saved,
     Working,

@@ -9,7 +9,7 @@ use tree::Reach;
 use visit::LIST_LENGTH;
 
 // What a call tells: its outcome number, how many are reached and how many copies are made.
-#[derive(Drop)]
+#[derive(Clone, Copy)]
 pub struct Called {
     pub outcome: u8,
     pub reached: u8,
@@ -17,7 +17,7 @@ pub struct Called {
 }
 
 // What the call over bytes gave: the answer, how many entries are to be filled, and their bytes.
-#[derive(Drop)]
+#[derive(Clone, Copy)]
 pub struct Filling {
     pub called: Called,
     pub fill: usize,

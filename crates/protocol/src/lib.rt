@@ -20,7 +20,7 @@ pub const REPLY: u8 = 2;
 
 pub const LONGEST_SCRIPT: usize = 16384;
 
-#[derive(Drop)]
+#[derive(Clone, Copy)]
 pub struct Entry {
     pub parent: u8,
     pub tentative: u8,
@@ -30,7 +30,7 @@ pub struct Entry {
     pub waiting: u16,
 }
 
-#[derive(Drop)]
+#[derive(Clone, Copy)]
 pub struct Message {
     pub kind: u8,
     pub group: u8,
@@ -39,7 +39,7 @@ pub struct Message {
 }
 
 // What comes of a reply, in the order in which it is tested.
-#[derive(Drop)]
+#[derive(Clone, Copy)]
 pub enum Case {
     Adopted,
     NotTentative,
@@ -48,7 +48,7 @@ pub enum Case {
 }
 
 // How many replies of each case were heard.
-#[derive(Drop)]
+#[derive(Clone, Copy)]
 pub struct Replies {
     pub adopted: u32,
     pub not_tentative: u32,
@@ -56,7 +56,7 @@ pub struct Replies {
     pub not_greater: u32,
 }
 
-#[derive(Drop)]
+#[derive(Clone, Copy)]
 pub struct Tally {
     pub accepted: u32,
     pub refused: u32,

@@ -12,7 +12,7 @@ use layout::form::Mark;
 use protocol::{LONGEST_SCRIPT, Tally};
 
 // What a run answers: its outcome number, and its counts, which are zero beside a refusal.
-#[derive(Drop)]
+#[derive(Clone, Copy)]
 pub struct Answer {
     pub outcome: u8,
     pub tally: Tally,

@@ -12,7 +12,7 @@ use layout::form::Mark;
 use protocol::Replies;
 
 // What a step answers: its outcome number, and the number of the case of the reply that it heard, 0 where it heard none.
-#[derive(Drop)]
+#[derive(Clone, Copy)]
 pub struct Answer {
     pub outcome: u8,
     pub case: u8,
