@@ -27,7 +27,7 @@ join8-requires-2 c κs = search rules
 returns : tie.Need-returns
 unfolding is_of
 returns c = let a = c.before.before.args in
-    (λ i. eqb (c.before.join8.ensures i) (c.join82.ensures i)) ∙ as_one a.m.kind a.m.group a.kind a.group (omega arith) (omega arith)
+    (λ i. eqb (c.before.join8.ensures i) (c.join8-2.ensures i)) ∙ as_one a.m.kind a.m.group a.kind a.group (omega arith) (omega arith)
 
-pub is-of-spec : {M : Type 1} → statement M
-is-of-spec = tie.close (tie.spec join8-requires join8-requires-2 returns)
+pub is_of_spec : {M : Type 1} → statement M
+is_of_spec = tie.close (tie.spec join8-requires join8-requires-2 returns)

@@ -10,47 +10,47 @@ use borrow.Author.Rules.{rules}
 use Rattle.channel.proofs.push.Statement.{statement}
 use Rattle.channel.proofs.push.Tie as tie
 
-slice-read-n : tie.Need-slice-read-n
+slice-read-n : tie.Need-bounds-ch-0
 slice-read-n c = search rules
 
-cast-at : tie.Need-overflow-cast-at
+cast-at : tie.Need-overflow_cast-at
 cast-at c = search rules
 
-mul_at : tie.Need-overflow-mul-at
+mul_at : tie.Need-overflow_mul-at
 mul_at c = search rules
 
-add_at : tie.Need-overflow-add-at
+add_at : tie.Need-overflow_add-at
 add_at c = search rules
 
-add-put-message : tie.Need-overflow-add-put-message
+add-put-message : tie.Need-overflow_add-at-2
 add-put-message c = search rules
 
-sub-put-message : tie.Need-overflow-sub-put-message
+sub-put-message : tie.Need-slice_bounds-put_message-count
 sub-put-message c = search rules
 
-part-put-message-start : tie.Need-slice-bounds-put-message-start
+part-put-message-start : tie.Need-slice_bounds-put_message-start
 part-put-message-start c = search rules
 
-part-put-message-end : tie.Need-slice-bounds-put-message-end
+part-put-message-end : tie.Need-slice_bounds-put_message-end
 part-put-message-end c = search rules
 
-put-message-requires : tie.Need-put-message-requires
+put-message-requires : tie.Need-put_message-requires
 put-message-requires c κs = search rules
 
-add-ch : tie.Need-overflow-add-ch
+add-ch : tie.Need-overflow_add-ch
 add-ch c = search rules
 
-slice-write-ch : tie.Need-slice-write-ch
+slice-write-ch : tie.Need-bounds-ch-0-2
 slice-write-ch c = search rules
 
-same_length : tie.Need-same-length
+same_length : tie.Need-shape_of-ch
 same_length c = search rules
 
 returns : tie.Need-returns
 returns c =
     let s = c.before.before.before.before.before.before in
     let b = s.args.ch.now in
-    rw (c.before.before.put-message.ensures, add-sub_cancel_left)
+    rw (c.before.before.put_message.ensures, add-sub_cancel_left)
     (sent capacity message_size b (message_bytes s.args.m) (queue b s.requires.0) (omega arith) (length-message_bytes s.args.m) ∙ sent-list b s.requires.0 s.args.m)
 
 pub push_spec : {M : Type 1} → statement M

@@ -9,14 +9,14 @@ use Rattle.bits.proofs.mask.has.Tie as tie
 wide-requires : tie.Need-wide-requires
 wide-requires c κs = search rules
 
-has-at-requires : tie.Need-has-at-requires
+has-at-requires : tie.Need-has_at-requires
 has-at-requires c κs = search rules
 
-returns : tie.Need-returns
-returns c = c.has-at.ensures ∙ ap (mask.has _) c.before.wide.ensures.0
+returns : tie.Need-returns-then-j-lt16
+returns c = c.has_at.ensures ∙ ap (mask.has _) c.before.wide.ensures.0
 
-returns-2 : tie.Need-returns-2
-returns-2 c = sym (has-beyond c.before.args.m 16 c.before.args.j (omega arith) c.if1.false)
+returns-2 : tie.Need-returns-else-j-lt16
+returns-2 c = sym (has-beyond c.before.args.m 16 c.before.args.j (omega arith) c.if-j-lt16.false)
 
-pub has-spec : {M : Type 1} → statement M
-has-spec = tie.close (tie.spec wide-requires has-at-requires returns returns-2)
+pub has_spec : {M : Type 1} → statement M
+has_spec = tie.close (tie.spec wide-requires has-at-requires returns returns-2)

@@ -6,5 +6,5 @@ use Rattle.bits.proofs.mask.within.Tie as tie
 returns : tie.Need-returns
 returns c = and-within 16 c.args.a c.args.b (omega arith)
 
-pub within-spec : {M : Type 1} → statement M
-within-spec = tie.close (tie.spec returns)
+pub within_spec : {M : Type 1} → statement M
+within_spec = tie.close (tie.spec returns)

@@ -7,7 +7,7 @@ use Rattle.bits.proofs.number.get32.Tie as tie
 get16-requires : tie.Need-get16-requires
 get16-requires c κs = search rules
 
-add-get16 : tie.Need-overflow-add-get16
+add-get16 : tie.Need-overflow_add-at
 add-get16 c = search rules
 
 get16-requires-2 : tie.Need-get16-requires-2
@@ -18,7 +18,7 @@ join16-requires c κs = search rules
 
 returns : tie.Need-returns
 returns c = let a = c.before.before.before.before.args in
-    omega (arith, c.join16.ensures, c.before.get162.ensures, c.before.before.get16.ensures, number_at-add 2 2 a.s.now a.at)
+    omega (arith, c.join16.ensures, c.before.get16-2.ensures, c.before.before.get16.ensures, number_at-add 2 2 a.s.now a.at)
 
-pub get32-spec : {M : Type 1} → statement M
-get32-spec = tie.close (tie.spec get16-requires add-get16 get16-requires-2 join16-requires returns)
+pub get32_spec : {M : Type 1} → statement M
+get32_spec = tie.close (tie.spec get16-requires add-get16 get16-requires-2 join16-requires returns)

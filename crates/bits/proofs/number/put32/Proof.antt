@@ -8,48 +8,48 @@ use borrow.Author.Rules.{rules}
 use Rattle.bits.proofs.number.put32.Statement.{statement}
 use Rattle.bits.proofs.number.put32.Tie as tie
 
-cast-s : tie.Need-overflow-cast-s
+cast-s : tie.Need-overflow_cast-s
 cast-s c = search rules
 
-slice-write-s : tie.Need-slice-write-s
+slice-write-s : tie.Need-bounds-s-at
 slice-write-s c = search rules
 
-cast-s-2 : tie.Need-overflow-cast-s-2
+cast-s-2 : tie.Need-overflow_cast-s-2
 cast-s-2 c = search rules
 
-add-s : tie.Need-overflow-add-s
+add-s : tie.Need-overflow_add-s
 add-s c = search rules
 
-slice-write-s-2 : tie.Need-slice-write-s-2
+slice-write-s-2 : tie.Need-bounds-s-at-2
 slice-write-s-2 c = simp length-set (omega arith)
 
-cast-s-3 : tie.Need-overflow-cast-s-3
+cast-s-3 : tie.Need-overflow_cast-s-3
 cast-s-3 c = search rules
 
-add-s-2 : tie.Need-overflow-add-s-2
+add-s-2 : tie.Need-overflow_add-s-2
 add-s-2 c = search rules
 
-slice-write-s-3 : tie.Need-slice-write-s-3
+slice-write-s-3 : tie.Need-bounds-s-at-3
 slice-write-s-3 c = simp length-set (omega arith)
 
-cast-s-4 : tie.Need-overflow-cast-s-4
+cast-s-4 : tie.Need-overflow_cast-s-4
 cast-s-4 c = search rules
 
-add-s-3 : tie.Need-overflow-add-s-3
+add-s-3 : tie.Need-overflow_add-s-3
 add-s-3 c = search rules
 
-slice-write-s-4 : tie.Need-slice-write-s-4
+slice-write-s-4 : tie.Need-bounds-s-at-4
 slice-write-s-4 c = simp length-set (omega arith)
 
-same_length : tie.Need-same-length
+same_length : tie.Need-shape_of-s
 same_length c = search rules
 
 returns : tie.Need-returns
 unfolding splice bytes
 returns c = simp (towards_suc, div-one)
 
-pub put32-spec : {M : Type 1} → statement M
-put32-spec =
+pub put32_spec : {M : Type 1} → statement M
+put32_spec =
     tie.close
     (tie.spec
     cast-s

@@ -4,15 +4,15 @@ use borrow.Author.Rules.{rules}
 use Rattle.bits.proofs.number.put8.Statement.{statement}
 use Rattle.bits.proofs.number.put8.Tie as tie
 
-slice-write-s : tie.Need-slice-write-s
+slice-write-s : tie.Need-bounds-s-at
 slice-write-s c = search rules
 
-same_length : tie.Need-same-length
+same_length : tie.Need-shape_of-s
 same_length c = search rules
 
 returns : tie.Need-returns
 unfolding splice
 returns c = refl
 
-pub put8-spec : {M : Type 1} → statement M
-put8-spec = tie.close (tie.spec slice-write-s same_length returns)
+pub put8_spec : {M : Type 1} → statement M
+put8_spec = tie.close (tie.spec slice-write-s same_length returns)

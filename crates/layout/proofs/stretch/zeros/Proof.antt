@@ -9,39 +9,39 @@ use Rattle.bits.proofs.Below.{all_none, all_more, all_done}
 use Rattle.layout.proofs.stretch.zeros.Statement.{statement}
 use Rattle.layout.proofs.stretch.zeros.Tie as tie
 
-abbrev invariant-loop : tie.invariant-loop
+abbrev invariant-loop : tie.invariant-loop-i
 invariant-loop s a e n ok₀ i₀ ok i = (n ≡ e - a) × (i ≤ n) × (ok ≡ all_below i (λ k. eqb (byte s (a + k)) 0))
 
-abbrev decreases-loop : tie.decreases-loop
+abbrev decreases-loop : tie.decreases-loop-i
 decreases-loop s a e n ok₀ i₀ ok i = n - i
 
-sub-n : tie.Need-overflow-sub-n invariant-loop decreases-loop
+sub-n : tie.Need-overflow_sub-n invariant-loop decreases-loop
 sub-n c = omega arith
 
-loop-holds : tie.Need-loop-init invariant-loop decreases-loop
+loop-holds : tie.Need-loop-i-init invariant-loop decreases-loop
 loop-holds c = (refl, omega arith, all_none _)
 
-add_ok : tie.Need-overflow-add-ok invariant-loop decreases-loop
+add_ok : tie.Need-overflow_add-ok invariant-loop decreases-loop
 add_ok c = omega arith
 
-shared-slice-read-ok : tie.Need-shared-slice-read-ok invariant-loop decreases-loop
+shared-slice-read-ok : tie.Need-bounds-s-a invariant-loop decreases-loop
 shared-slice-read-ok c = omega arith
 
-add-i : tie.Need-overflow-add-i invariant-loop decreases-loop
+add-i : tie.Need-overflow_step-i invariant-loop decreases-loop
 add-i c = omega arith
 
-loop-less : tie.Need-loop-smaller invariant-loop decreases-loop
+loop-less : tie.Need-loop-i-smaller invariant-loop decreases-loop
 loop-less c = omega arith
 
-loop-again : tie.Need-loop-preserved invariant-loop decreases-loop
-loop-again c = (c.before.before.loop.invariant.0, omega arith, all_more _ c.before.before.loop.invariant.2 refl)
+loop-again : tie.Need-loop-i-preserved invariant-loop decreases-loop
+loop-again c = (c.before.before.loop-i.invariant.0, omega arith, all_more _ c.before.before.loop-i.invariant.2 refl)
 
 returns : tie.Need-returns invariant-loop decreases-loop
 unfolding zeros
-returns c = all_done _ c.before.loop.invariant.1 c.loop-test.false c.before.loop.invariant.2
+returns c = all_done _ c.before.loop-i.invariant.1 c.loop-i-test.false c.before.loop-i.invariant.2
 
-pub zeros-spec : {M : Type 1} → statement M
-zeros-spec =
+pub zeros_spec : {M : Type 1} → statement M
+zeros_spec =
     tie.close
     (tie.spec
     invariant-loop
