@@ -21,7 +21,9 @@ WORDS = {
 APART = [
     ("forms", "proofs/plan", "no_name", "no-name"),
     ("forms", "proofs/plan", "same_names", "same_names_lem"),
+    ("plan", "proofs/Plans", "group_at", "group-at"),
     ("rig", "proofs/Words", "found_word", "found_word_lem"),
+    ("deliver", "proofs/answer", "take_at", "took"),
 ]
 # Edits of clauses, which name a value before and after a call in today's way: crate, edit, old and new text.
 CLAUSES = [

@@ -32,9 +32,9 @@ module _ (l : List ℕ) (H : Header) (e : planned l H ≡ true) where
   unfolding header_shaped
   counts = let f = simp facts at heads in omega arith
 
-  group_at : (g : ℕ) → g < groups l → group_shaped l (stations l) g ≡ true
+  group-at : (g : ℕ) → g < groups l → group_shaped l (stations l) g ≡ true
   unfolding planned
-  group_at g h = table_at l _ _ _ _ _ (simp facts at e).0.0.1 g h
+  group-at g h = table_at l _ _ _ _ _ (simp facts at e).0.0.1 g h
 
   pub groups-rest : (i : ℕ) → group_at (groups l) ≤ i → i < 80 → byte l i ≡ 0
   unfolding planned
@@ -46,15 +46,15 @@ module _ (l : List ℕ) (H : Header) (e : planned l H ≡ true) where
 
   pub name-at : (g : ℕ) → g < groups l → (1 ≤ name_length l g) × (name_length l g ≤ 16)
   unfolding group_shaped
-  name-at g h = let f = simp facts at (group_at g h) in omega arith
+  name-at g h = let f = simp facts at (group-at g h) in omega arith
 
   pub padding-at : (g : ℕ) → g < groups l → (i : ℕ) → group_at g + 1 + name_length l g ≤ i → i < group_at g + 17 → byte l i ≡ 0
   unfolding group_shaped
-  padding-at g h = let f = simp facts at (group_at g h) in zeros-at l _ _ f.0.1
+  padding-at g h = let f = simp facts at (group-at g h) in zeros-at l _ _ f.0.1
 
   pub root-at : (g : ℕ) → g < groups l → root l g < stations l
   unfolding group_shaped
-  root-at g h = let f = simp facts at (group_at g h) in omega arith
+  root-at g h = let f = simp facts at (group-at g h) in omega arith
 
   pub new-at : (a b : ℕ) → a < groups l → b < a → same_names l a b ≡ false
   unfolding planned names_distinct new_name

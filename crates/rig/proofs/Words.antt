@@ -12,23 +12,23 @@ use Rattle.call.specs.Answers as called
 use Rattle.call.specs.declared.Answer as call
 use Rattle.call.specs.declared.Answer.TheVariants as answer
 use Rattle.call.proofs.Answers as call-laws
-use Rattle.rig.specs.Face.{found_word_lem, called_word}
+use Rattle.rig.specs.Face.{found_word, called_word}
 
 module _ (l w : List ℕ) (a : find.Answer) (e : a ≡ found.answer_of (found.found_in l w)) where
-  found_word_lem : found_word_lem (found.found_of a) ≡ found_word_lem (found.found_in l w)
-  found_word_lem = ap (λ (x : find.Answer). found_word_lem (found.found_of x)) e ∙ ap found_word_lem (find-laws.answer-tells l w)
+  found_word_lem : found_word (found.found_of a) ≡ found_word (found.found_in l w)
+  found_word_lem = ap (λ (x : find.Answer). found_word (found.found_of x)) e ∙ ap found_word (find-laws.answer-tells l w)
 
-  pub word-group : (g : ℕ) → a ≡ Group g → 256 * g ≡ found_word_lem (found.found_in l w)
-  word-group g is = one ∙ ap (λ (x : find.Answer). found_word_lem (found.found_of x)) (sym is) ∙ found_word_lem
+  pub word-group : (g : ℕ) → a ≡ Group g → 256 * g ≡ found_word (found.found_in l w)
+  word-group g is = one ∙ ap (λ (x : find.Answer). found_word (found.found_of x)) (sym is) ∙ found_word_lem
     where
-      one : 256 * g ≡ found_word_lem (found.found_of (Group g))
-      one = unfold found_word_lem in omega arith
+      one : 256 * g ≡ found_word (found.found_of (Group g))
+      one = unfold found_word in omega arith
 
-  pub word-unfound : (k : ℕ) → a ≡ Refused k → k ≡ found_word_lem (found.found_in l w)
-  word-unfound k is = one ∙ ap (λ (x : find.Answer). found_word_lem (found.found_of x)) (sym is) ∙ found_word_lem
+  pub word-unfound : (k : ℕ) → a ≡ Refused k → k ≡ found_word (found.found_in l w)
+  word-unfound k is = one ∙ ap (λ (x : find.Answer). found_word (found.found_of x)) (sym is) ∙ found_word_lem
     where
-      one : k ≡ found_word_lem (found.found_of (Refused k))
-      one = unfold found_word_lem in omega arith
+      one : k ≡ found_word (found.found_of (Refused k))
+      one = unfold found_word in omega arith
 
 module _ (l : List ℕ) (g c : ℕ) (fits : Bool) (a : call.Answer) (e : a ≡ called.answer_of (called.called_in l g c fits)) where
   called-word : called_word (called.called_of a) ≡ called_word (called.called_in l g c fits)

@@ -39,14 +39,14 @@ to s = receiver (N s) (H s) s.args.s s.args.d s.requires.1.1.0
 abbrev start : tie.After-take-at → tie.Start
 start x = x.before.before.before
 
-abbrev take_at : tie.After-with-child → tie.After-take-at
-take_at x = x.before.before.before.before.before.before.before
+abbrev took : tie.After-with-child → tie.After-take-at
+took x = x.before.before.before.before.before.before.before
 
 abbrev with-child : tie.After-set-children → tie.After-with-child
 with-child x = x.before.before
 
 abbrev from : tie.After-with-child → tie.Start
-from x = start (take_at x)
+from x = start (took x)
 
 -- the net without the message, and with the sender listed
 abbrev out : tie.Start → Net
@@ -56,23 +56,23 @@ abbrev lists : tie.Start → Net
 lists s = set_entry (out s) s.args.g s.args.d (with_child ((N s).entry s.args.g s.args.d) s.args.s)
 
 -- the bytes once the message is taken out
-taken_out : (x : tie.After-take-at) → let s = start x in let l = x.take_at.new.0 in
+taken_out : (x : tie.After-take-at) → let s = start x in let l = x.took.new.0 in
     (IsNet l) × (view l ≡ out s) × ((M : Net) → bytes_like l M ≡ bytes_like s.args.net.now M) × (mark_of s.args.net.now ≡ mark_of l)
-taken_out x = let s = start x in taken (N s) (H s) s.args.s s.args.d s.pre.1.1.0 _ _ x.take_at.ensures
+taken_out x = let s = start x in taken (N s) (H s) s.args.s s.args.d s.pre.1.1.0 _ _ x.took.ensures
 
-within : (x : tie.After-take-at) → let s = start x in let l = x.take_at.new.0 in (s.args.g < (view l).groups) × (s.args.d < (view l).stations)
+within : (x : tie.After-take-at) → let s = start x in let l = x.took.new.0 in (s.args.g < (view l).groups) × (s.args.d < (view l).stations)
 unfolding take_at set_channel
 within x = let s = start x in subst (λ (M : Net). (s.args.g < M.groups) × (s.args.d < M.stations)) (sym (taken_out x).1) (in-groups s, to s)
 
 -- the root, and the receiver's entry, with the sender among its children
 root : (x : tie.After-with-child) → x.before.before.before.root-of.result ≡ (N (from x)).root (from x).args.g
 unfolding take_at set_channel
-root x = x.before.before.before.root-of.ensures.0 ∙ ap (λ (M : Net). M.root (from x).args.g) (taken_out (take_at x)).1
+root x = x.before.before.before.root-of.ensures.0 ∙ ap (λ (M : Net). M.root (from x).args.g) (taken_out (took x)).1
 
 entry : (x : tie.After-with-child) → x.with-child.result ≡ with_child ((N (from x)).entry (from x).args.g (from x).args.d) (from x).args.s
 unfolding take_at set_channel
 entry x = let a = (from x).args in
-    x.with-child.ensures ∙ ap (λ (e : Entry). with_child e a.s) (x.before.entry-as.ensures ∙ ap (λ (M : Net). M.entry a.g a.d) (taken_out (take_at x)).1)
+    x.with-child.ensures ∙ ap (λ (e : Entry). with_child e a.s) (x.before.entry-as.ensures ∙ ap (λ (M : Net). M.entry a.g a.d) (taken_out (took x)).1)
 
 -- the bytes once the sender is listed
 written : (x : tie.After-set-children) → let s = from (with-child x) in x.set-children.new.0 ≡ bytes_like s.args.net.now (lists s)
@@ -82,7 +82,7 @@ written x = let w = with-child x in
     let a = s.args in
     let r = s.pre.0 in
     made_after a.m a.g a.d _ (out s) _ _ (λ (e : Entry). with_children e w.with-child.result.children) s.pre.1.0 r.stations_most r.groups_most (in-groups s) (to s)
-    (take_at w).take_at.ensures x.set-children.ensures
+    (took w).took.ensures x.set-children.ensures
     ∙ (λ i. bytes_like a.net.now (set_entry (out s) a.g a.d (with_children ((N s).entry a.g a.d) (entry w i).children)))
 
 after : (x : tie.After-set-children) → let s = from (with-child x) in let l = x.set-children.new.0 in
@@ -105,7 +105,7 @@ with-child-requires : tie.Need-with-child-requires
 with-child-requires c κs = let s = start c.before.before.before.before.before.before in omega (arith, from· s, s.pre.0.stations_most)
 
 set-children-requires : tie.Need-set-children-requires
-set-children-requires c κs = let x = take_at c.before in own _ (taken_out x).0 _ _ (within x).0 (within x).1
+set-children-requires c κs = let x = took c.before in own _ (taken_out x).0 _ _ (within x).0 (within x).1
 
 reply-of-requires : tie.Need-reply-of-requires
 reply-of-requires c κs = search rules
