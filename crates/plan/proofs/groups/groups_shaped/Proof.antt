@@ -8,41 +8,41 @@ use Rattle.plan.specs.Planned.{group_shaped}
 use Rattle.plan.proofs.groups.groups_shaped.Statement.{statement}
 use Rattle.plan.proofs.groups.groups_shaped.Tie as tie
 
-abbrev invariant-loop : tie.invariant-loop
+abbrev invariant-loop : tie.invariant-loop-k
 invariant-loop s n g ok₀ k₀ ok k = (k ≤ g) × (ok ≡ all_below k (group_shaped s n))
 
-abbrev decreases-loop : tie.decreases-loop
+abbrev decreases-loop : tie.decreases-loop-k
 decreases-loop s n g ok₀ k₀ ok k = g - k
 
-loop-holds : tie.Need-loop-init invariant-loop decreases-loop
+loop-holds : tie.Need-loop-k-init invariant-loop decreases-loop
 loop-holds c = (omega arith, all_none _)
 
-group-shaped-requires : tie.Need-group-shaped-requires invariant-loop decreases-loop
+group-shaped-requires : tie.Need-group_shaped-ok-requires invariant-loop decreases-loop
 group-shaped-requires c κs = omega arith
 
-add-k : tie.Need-overflow-add-k invariant-loop decreases-loop
+add-k : tie.Need-overflow_step-k invariant-loop decreases-loop
 add-k c = omega arith
 
-loop-less : tie.Need-loop-smaller invariant-loop decreases-loop
+loop-less : tie.Need-loop-k-smaller invariant-loop decreases-loop
 loop-less c = omega arith
 
-loop-again : tie.Need-loop-preserved invariant-loop decreases-loop
-loop-again c = (omega arith, all_more _ c.before.before.loop.invariant.1 c.group-shaped.ensures)
+loop-again : tie.Need-loop-k-preserved invariant-loop decreases-loop
+loop-again c = (omega arith, all_more _ c.before.before.loop-k.invariant.1 c.group_shaped-ok.ensures)
 
-mul-zeros : tie.Need-overflow-mul-zeros invariant-loop decreases-loop
+mul-zeros : tie.Need-overflow_mul-g invariant-loop decreases-loop
 mul-zeros c = omega arith
 
-add-zeros : tie.Need-overflow-add-zeros invariant-loop decreases-loop
+add-zeros : tie.Need-overflow_add-g invariant-loop decreases-loop
 add-zeros c = omega arith
 
 zeros-requires : tie.Need-zeros-requires invariant-loop decreases-loop
 zeros-requires c κs = omega arith
 
 returns : tie.Need-returns invariant-loop decreases-loop
-returns c = table_done _ _ _ _ _ _ c.before.before.loop.invariant.0 c.before.loop-test.false c.before.before.loop.invariant.1 c.zeros.ensures
+returns c = table_done _ _ _ _ _ _ c.before.before.loop-k.invariant.0 c.before.loop-k-test.false c.before.before.loop-k.invariant.1 c.zeros.ensures
 
-pub groups-shaped-spec : {M : Type 1} → statement M
-groups-shaped-spec =
+pub groups_shaped_spec : {M : Type 1} → statement M
+groups_shaped_spec =
     tie.close
     (tie.spec
     invariant-loop

@@ -7,32 +7,32 @@ use Rattle.plan.specs.Planned.{new_name, names_distinct}
 use Rattle.plan.proofs.groups.names_distinct.Statement.{statement}
 use Rattle.plan.proofs.groups.names_distinct.Tie as tie
 
-abbrev invariant-loop : tie.invariant-loop
+abbrev invariant-loop : tie.invariant-loop-a
 invariant-loop s g ok₀ a₀ ok a = (a ≤ g) × (ok ≡ all_below a (new_name s))
 
-abbrev decreases-loop : tie.decreases-loop
+abbrev decreases-loop : tie.decreases-loop-a
 decreases-loop s g ok₀ a₀ ok a = g - a
 
-loop-holds : tie.Need-loop-init invariant-loop decreases-loop
+loop-holds : tie.Need-loop-a-init invariant-loop decreases-loop
 loop-holds c = (omega arith, all_none _)
 
-new-name-requires : tie.Need-new-name-requires invariant-loop decreases-loop
+new-name-requires : tie.Need-new_name-ok-requires invariant-loop decreases-loop
 new-name-requires c κs = omega arith
 
-add_a : tie.Need-overflow-add-a invariant-loop decreases-loop
+add_a : tie.Need-overflow_step-a invariant-loop decreases-loop
 add_a c = omega arith
 
-loop-less : tie.Need-loop-smaller invariant-loop decreases-loop
+loop-less : tie.Need-loop-a-smaller invariant-loop decreases-loop
 loop-less c = omega arith
 
-loop-again : tie.Need-loop-preserved invariant-loop decreases-loop
-loop-again c = (omega arith, all_more _ c.before.before.loop.invariant.1 c.new-name.ensures)
+loop-again : tie.Need-loop-a-preserved invariant-loop decreases-loop
+loop-again c = (omega arith, all_more _ c.before.before.loop-a.invariant.1 c.new_name-ok.ensures)
 
 returns : tie.Need-returns invariant-loop decreases-loop
 unfolding names_distinct
-returns c = all_done _ c.before.loop.invariant.0 c.loop-test.false c.before.loop.invariant.1
+returns c = all_done _ c.before.loop-a.invariant.0 c.loop-a-test.false c.before.loop-a.invariant.1
 
-pub names-distinct-spec : {M : Type 1} → statement M
-names-distinct-spec =
+pub names_distinct_spec : {M : Type 1} → statement M
+names_distinct_spec =
     tie.close
     (tie.spec invariant-loop decreases-loop loop-holds new-name-requires add_a loop-less loop-again returns)

@@ -6,18 +6,18 @@ use borrow.Author.Rules.{rules}
 use Rattle.plan.proofs.whole.plan_shaped.Statement.{statement}
 use Rattle.plan.proofs.whole.plan_shaped.Tie as tie
 
-returns : tie.Need-returns
+returns : tie.Need-returns-then-s-ne-PLAN_LENGTH
 unfolding plan_shaped
-returns c = simp (ne_eqb _ _ c.if1.true)
+returns c = simp (ne_eqb _ _ c.if-s-ne-PLAN_LENGTH.true)
 
-cast-planned : tie.Need-overflow-cast-planned
+cast-planned : tie.Need-overflow_cast-planned
 cast-planned c = search rules
 
 planned-requires : tie.Need-planned-requires
 planned-requires c κs = search rules
 
-returns-2 : tie.Need-returns-2
-returns-2 c = plan-is c.before.before.before.args.s.now _ c.before.if1.false (λ i. omega (arith, c.before.before.shared-slice-known.given i)) c.planned.ensures
+returns-2 : tie.Need-returns
+returns-2 c = plan-is c.before.before.before.args.s.now _ c.before.if-s-ne-PLAN_LENGTH.false (λ i. omega (arith, c.before.before.shared_slice_known-1.given i)) c.planned.ensures
 
-pub plan-shaped-spec : {M : Type 1} → statement M
-plan-shaped-spec = tie.close (tie.spec returns cast-planned planned-requires returns-2)
+pub plan_shaped_spec : {M : Type 1} → statement M
+plan_shaped_spec = tie.close (tie.spec returns cast-planned planned-requires returns-2)

@@ -6,40 +6,40 @@ use borrow.Author.Rules.{rules}
 use Rattle.plan.proofs.whole.planned.Statement.{statement}
 use Rattle.plan.proofs.whole.planned.Tie as tie
 
-header-shaped-requires : tie.Need-header-shaped-requires
+header-shaped-requires : tie.Need-header_shaped-requires
 header-shaped-requires c κs = search rules
 
 stations-requires : tie.Need-stations-requires
 stations-requires c κs = search rules
 
-wide-requires : tie.Need-wide-requires
+wide-requires : tie.Need-wide-n-requires
 wide-requires c κs = search rules
 
 groups-requires : tie.Need-groups-requires
 groups-requires c κs = search rules
 
-wide-requires-2 : tie.Need-wide-requires-2
+wide-requires-2 : tie.Need-wide-g-requires
 wide-requires-2 c κs = search rules
 
-groups-shaped-requires : tie.Need-groups-shaped-requires
-groups-shaped-requires c κs = omega (arith, header-few _ _ (sym c.before.before.before.before.before.header-shaped.ensures ∙ c.before.before.before.before.if1.true))
+groups-shaped-requires : tie.Need-groups_shaped-requires
+groups-shaped-requires c κs = omega (arith, header-few _ _ (sym c.before.before.before.before.before.header_shaped.ensures ∙ c.before.before.before.before.if-header_shaped.true))
 
-names-distinct-requires : tie.Need-names-distinct-requires
-names-distinct-requires c κs = omega (arith, header-few _ _ (sym c.before.before.before.before.before.before.header-shaped.ensures ∙ c.before.before.before.before.before.if1.true))
+names-distinct-requires : tie.Need-names_distinct-requires
+names-distinct-requires c κs = omega (arith, header-few _ _ (sym c.before.before.before.before.before.before.header_shaped.ensures ∙ c.before.before.before.before.before.if-header_shaped.true))
 
-cables-shaped-requires : tie.Need-cables-shaped-requires
-cables-shaped-requires c κs = omega (arith, header-few _ _ (sym c.before.before.before.before.before.before.before.header-shaped.ensures ∙ c.before.before.before.before.before.before.if1.true))
+cables-shaped-requires : tie.Need-cables_shaped-requires
+cables-shaped-requires c κs = omega (arith, header-few _ _ (sym c.before.before.before.before.before.before.before.header_shaped.ensures ∙ c.before.before.before.before.before.before.if-header_shaped.true))
 
-returns : tie.Need-returns
+returns : tie.Need-returns-then-header_shaped
 unfolding planned
-returns c = simp (← c.before.before.before.before.before.before.before.before.header-shaped.ensures, c.before.before.before.before.before.before.before.if1.true) (cc)
+returns c = simp (← c.before.before.before.before.before.before.before.before.header_shaped.ensures, c.before.before.before.before.before.before.before.if-header_shaped.true) (cc)
 
-returns-2 : tie.Need-returns-2
+returns-2 : tie.Need-returns-else-header_shaped
 unfolding planned
-returns-2 c = simp (← c.before.header-shaped.ensures, c.if1.false)
+returns-2 c = simp (← c.before.header_shaped.ensures, c.if-header_shaped.false)
 
-pub planned-spec : {M : Type 1} → statement M
-planned-spec =
+pub planned_spec : {M : Type 1} → statement M
+planned_spec =
     tie.close
     (tie.spec
     header-shaped-requires
