@@ -20,43 +20,43 @@ empty nb g d at l none =
     let end : at + channel_size ≡ at + 1 + message_size * capacity = omega arith in
     rw none (ap₂ (zeros l) start end)
 
-shared-slice-read-count : tie.Need-shared-slice-read-count
+shared-slice-read-count : tie.Need-bounds-s-at
 shared-slice-read-count c = search rules
 
-returns : tie.Need-returns
+returns : tie.Need-returns-then-count-gt-CAPACITY
 unfolding channel_shaped count_shaped
-returns c = simp (lt-leb _ _ c.if1.true)
+returns c = simp (lt-leb _ _ c.if-count-gt-CAPACITY.true)
 
-add-zeros : tie.Need-overflow-add-zeros
+add-zeros : tie.Need-overflow_add-at
 add-zeros c = search rules
 
-add-zeros-2 : tie.Need-overflow-add-zeros-2
+add-zeros-2 : tie.Need-overflow_add-at-then-count-eq0
 add-zeros-2 c = search rules
 
 zeros-requires : tie.Need-zeros-requires
 zeros-requires c κs = search rules
 
-returns-2 : tie.Need-returns-2
+returns-2 : tie.Need-returns-then-count-eq0
 returns-2 c = let x = c.before in
     let a = x.before.before.before.before.args in
-    c.zeros.ensures ∙ empty a.m a.g a.d a.at a.s.now x.if2.true
+    c.zeros.ensures ∙ empty a.m a.g a.d a.at a.s.now x.if-count-eq0.true
 
-has-at-requires : tie.Need-has-at-requires
+has-at-requires : tie.Need-has_at-requires
 has-at-requires c κs = search rules
 
 wide-requires : tie.Need-wide-requires
 wide-requires c κs = search rules
 
-messages-shaped-requires : tie.Need-messages-shaped-requires
+messages-shaped-requires : tie.Need-messages_shaped-requires
 messages-shaped-requires c κs = search rules
 
-returns-3 : tie.Need-returns-3
+returns-3 : tie.Need-returns
 unfolding channel_shaped count_shaped
 returns-3 c = let x = c.before.before.before in
-    simp (← c.before.wide.ensures.0, le-leb _ _ x.before.if1.false, ne_eqb _ _ x.if2.false) (cc)
+    simp (← c.before.wide.ensures.0, le-leb _ _ x.before.if-count-gt-CAPACITY.false, ne_eqb _ _ x.if-count-eq0.false) (cc)
 
-pub channel-shaped-spec : {M : Type 1} → statement M
-channel-shaped-spec =
+pub channel_shaped_spec : {M : Type 1} → statement M
+channel_shaped_spec =
     tie.close
     (tie.spec
     shared-slice-read-count

@@ -10,5 +10,5 @@ returns : tie.Need-returns
 unfolding nil_or
 returns c = cc
 
-pub nil-or-spec : {M : Type 1} → statement M
-nil-or-spec = tie.close (tie.spec has-requires returns)
+pub nil_or_spec : {M : Type 1} → statement M
+nil_or_spec = tie.close (tie.spec has-requires returns)

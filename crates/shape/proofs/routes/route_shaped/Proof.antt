@@ -9,20 +9,20 @@ use borrow.Author.Rules.{rules}
 use Rattle.shape.proofs.routes.route_shaped.Statement.{statement}
 use Rattle.shape.proofs.routes.route_shaped.Tie as tie
 
-shared-slice-read-nil-or : tie.Need-shared-slice-read-nil-or
+shared-slice-read-nil-or : tie.Need-bounds-s-at
 shared-slice-read-nil-or c = search rules
 
-nil-or-requires : tie.Need-nil-or-requires
+nil-or-requires : tie.Need-nil_or-requires
 nil-or-requires c κs = search rules
 
-shared-slice-read-result : tie.Need-shared-slice-read-result
+shared-slice-read-result : tie.Need-bounds-s-at-2
 shared-slice-read-result c = search rules
 
 returns : tie.Need-returns
 unfolding route_shaped
 returns c = let a = c.before.before.before.before.args in
-    ap (λ (near : Bool). near && (eqb a.p a.d implies eqb (byte a.s.now a.at) nil)) c.before.nil-or.ensures
+    ap (λ (near : Bool). near && (eqb a.p a.d implies eqb (byte a.s.now a.at) nil)) c.before.nil_or.ensures
 
-pub route-shaped-spec : {M : Type 1} → statement M
-route-shaped-spec =
+pub route_shaped_spec : {M : Type 1} → statement M
+route_shaped_spec =
     tie.close (tie.spec shared-slice-read-nil-or nil-or-requires shared-slice-read-result returns)

@@ -10,7 +10,7 @@ use borrow.Author.Rules.{rules}
 use Rattle.shape.proofs.station_entries.entry_cell_shaped.Statement.{statement}
 use Rattle.shape.proofs.station_entries.entry_cell_shaped.Tie as tie
 
-entry-at-requires : tie.Need-entry-at-requires
+entry-at-requires : tie.Need-entry_at-at-requires
 entry-at-requires c κs = search rules
 
 neighbours-requires : tie.Need-neighbours-requires
@@ -22,34 +22,34 @@ root-requires c κs = search rules
 wide-requires : tie.Need-wide-requires
 wide-requires c κs = search rules
 
-entry-shaped-requires : tie.Need-entry-shaped-requires
+entry-shaped-requires : tie.Need-entry_shaped-requires
 entry-shaped-requires c κs = search rules
 
-add-zeros : tie.Need-overflow-add-zeros
+add-zeros : tie.Need-overflow_add-at
 add-zeros c = search rules
 
 zeros-requires : tie.Need-zeros-requires
 zeros-requires c κs = search rules
 
-returns : tie.Need-returns
+returns : tie.Need-returns-then-k-g
 unfolding used
 returns c = let x = c.before.before.before.before in
     let a = x.before.before.before.args in
     let root = c.before.wide.ensures.0 ∙ c.before.before.root.ensures in
-    c.entry-shaped.ensures
-    ∙ (λ i. entry_shaped (c.before.before.before.neighbours.ensures i) (root i) a.p a.s.now (x.before.entry_at.ensures.0 i))
-    ∙ sym (cell-used a.s.now (entry_at a.m) entry_size most_groups most_stations a.g a.n (entry_shaped_at a.s.now a.n a.m) a.k a.p x.if1.true)
+    c.entry_shaped.ensures
+    ∙ (λ i. entry_shaped (c.before.before.before.neighbours.ensures i) (root i) a.p a.s.now (x.before.entry_at-at.ensures.0 i))
+    ∙ sym (cell-used a.s.now (entry_at a.m) entry_size most_groups most_stations a.g a.n (entry_shaped_at a.s.now a.n a.m) a.k a.p x.if-k-g.true)
 
-returns-2 : tie.Need-returns-2
+returns-2 : tie.Need-returns-else-k-g
 unfolding used
 returns-2 c = let x = c.before in
     let a = x.before.before.before.args in
-    let at = x.before.entry_at.ensures.0 in
+    let at = x.before.entry_at-at.ensures.0 in
     c.zeros.ensures ∙ (λ i. zeros a.s.now (at i) (at i + entry_size))
-    ∙ sym (cell_free a.s.now (entry_at a.m) entry_size most_groups most_stations a.g a.n (entry_shaped_at a.s.now a.n a.m) a.k a.p x.if1.false)
+    ∙ sym (cell_free a.s.now (entry_at a.m) entry_size most_groups most_stations a.g a.n (entry_shaped_at a.s.now a.n a.m) a.k a.p x.if-k-g.false)
 
-pub entry-cell-shaped-spec : {M : Type 1} → statement M
-entry-cell-shaped-spec =
+pub entry_cell_shaped_spec : {M : Type 1} → statement M
+entry_cell_shaped_spec =
     tie.close
     (tie.spec
     entry-at-requires

@@ -9,10 +9,10 @@ use borrow.Author.Rules.{rules}
 use Rattle.shape.proofs.whole.laid_out.Statement.{statement}
 use Rattle.shape.proofs.whole.laid_out.Tie as tie
 
-mark-byte-requires : tie.Need-mark-byte-requires
+mark-byte-requires : tie.Need-mark_byte-requires
 mark-byte-requires c κs = search rules
 
-cast-planned : tie.Need-overflow-cast-planned
+cast-planned : tie.Need-overflow_cast-planned
 cast-planned c = search rules
 
 planned-requires : tie.Need-planned-requires
@@ -21,38 +21,38 @@ planned-requires c κs = search rules
 stations-requires : tie.Need-stations-requires
 stations-requires c κs = search rules
 
-wide-requires : tie.Need-wide-requires
+wide-requires : tie.Need-wide-n-requires
 wide-requires c κs = search rules
 
 groups-requires : tie.Need-groups-requires
 groups-requires c κs = search rules
 
-wide-requires-2 : tie.Need-wide-requires-2
+wide-requires-2 : tie.Need-wide-g-requires
 wide-requires-2 c κs = search rules
 
 -- the plan was tested with the mark's byte
 plan-is : (x : tie.After-planned) → let a = x.before.before.before.args in x.planned.result ≡ planned a.s.now (net_header a.m)
-plan-is x = x.planned.ensures ∙ ap (λ (b : ℕ). planned x.before.before.before.args.s.now (of_version1 net_length b)) x.before.mark-byte.ensures
+plan-is x = x.planned.ensures ∙ ap (λ (b : ℕ). planned x.before.before.before.args.s.now (of_version1 net_length b)) x.before.mark_byte.ensures
 
-routes-shaped-requires : tie.Need-routes-shaped-requires
-routes-shaped-requires c κs = omega (arith, planned-few _ _ (sym (plan-is c.before.before.before.before.before) ∙ c.before.before.before.before.if1.true))
+routes-shaped-requires : tie.Need-routes_shaped-requires
+routes-shaped-requires c κs = omega (arith, planned-few _ _ (sym (plan-is c.before.before.before.before.before) ∙ c.before.before.before.before.if-planned.true))
 
-entries-shaped-requires : tie.Need-entries-shaped-requires
-entries-shaped-requires c κs = omega (arith, planned-few _ _ (sym (plan-is c.before.before.before.before.before.before) ∙ c.before.before.before.before.before.if1.true))
+entries-shaped-requires : tie.Need-entries_shaped-requires
+entries-shaped-requires c κs = omega (arith, planned-few _ _ (sym (plan-is c.before.before.before.before.before.before) ∙ c.before.before.before.before.before.if-planned.true))
 
-channels-shaped-requires : tie.Need-channels-shaped-requires
-channels-shaped-requires c κs = omega (arith, planned-few _ _ (sym (plan-is c.before.before.before.before.before.before.before) ∙ c.before.before.before.before.before.before.if1.true))
+channels-shaped-requires : tie.Need-channels_shaped-requires
+channels-shaped-requires c κs = omega (arith, planned-few _ _ (sym (plan-is c.before.before.before.before.before.before.before) ∙ c.before.before.before.before.before.before.if-planned.true))
 
-returns : tie.Need-returns
+returns : tie.Need-returns-then-planned
 unfolding laid_out
-returns c = simp (← plan-is c.before.before.before.before.before.before.before.before, c.before.before.before.before.before.before.before.if1.true) (cc)
+returns c = simp (← plan-is c.before.before.before.before.before.before.before.before, c.before.before.before.before.before.before.before.if-planned.true) (cc)
 
-returns-2 : tie.Need-returns-2
+returns-2 : tie.Need-returns-else-planned
 unfolding laid_out
-returns-2 c = simp (← plan-is c.before, c.if1.false)
+returns-2 c = simp (← plan-is c.before, c.if-planned.false)
 
-pub laid-out-spec : {M : Type 1} → statement M
-laid-out-spec =
+pub laid_out_spec : {M : Type 1} → statement M
+laid_out_spec =
     tie.close
     (tie.spec
     cast-planned
