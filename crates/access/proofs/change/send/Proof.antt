@@ -15,19 +15,19 @@ use borrow.Author.Rules.{rules}
 use Rattle.access.proofs.change.send.Statement.{statement}
 use Rattle.access.proofs.change.send.Tie as tie
 
-abbrev start : tie.After-channel-at → tie.Start
+abbrev start : tie.After-channel_at-at → tie.Start
 start x = x.before.before.before.before
 
-at-channel : (x : tie.After-channel-at) → x.channel-at.result ≡ channel_at (start x).args.s (start x).args.d
+at-channel : (x : tie.After-channel_at-at) → x.channel_at-at.result ≡ channel_at (start x).args.s (start x).args.d
 at-channel x = omega arith
 
-abbrev channel : tie.After-channel-at → List ℕ
-channel x = let at = x.channel-at.result in lent at (at + channel_size - at) (start x).args.net.now
+abbrev channel : tie.After-channel_at-at → List ℕ
+channel x = let at = x.channel_at-at.result in lent at (at + channel_size - at) (start x).args.net.now
 
-channel-is : (x : tie.After-channel-at) → let a = (start x).args in
+channel-is : (x : tie.After-channel_at-at) → let a = (start x).args in
     IsChannel (channel x) × (messages_of (channel x) ≡ (view a.net.now).channel a.s a.d)
 channel-is x = let s = start x in
-    channel-lent _ s.pre.0 s.args.s s.args.d _ s.pre.1.0 s.pre.1.1 (at-channel x)
+    channel-lent _ s.requires.0 s.args.s s.args.d _ s.requires.1.0 s.requires.1.1 (at-channel x)
 
 wide-requires : tie.Need-wide-requires
 wide-requires c κs = search rules
@@ -35,25 +35,25 @@ wide-requires c κs = search rules
 wide-requires-2 : tie.Need-wide-requires-2
 wide-requires-2 c κs = search rules
 
-channel-at-requires : tie.Need-channel-at-requires
+channel-at-requires : tie.Need-channel_at-at-requires
 channel-at-requires c κs = search rules
 
-add_push : tie.Need-overflow-add-push
+add_push : tie.Need-overflow_add-at
 add_push c = search rules
 
-sub-push : tie.Need-overflow-sub-push
+sub-push : tie.Need-slice_bounds-push-count
 sub-push c = search rules
 
-part-push-start : tie.Need-slice-bounds-push-start
+part-push-start : tie.Need-slice_bounds-push-start
 part-push-start c = search rules
 
-part-push-end : tie.Need-slice-bounds-push-end
+part-push-end : tie.Need-slice_bounds-push-end
 part-push-end c = search rules
 
 push-requires : tie.Need-push-requires
 push-requires c κs = let x = channel-is c.before in (x.0, rw x.1 (start c.before).requires.1.2)
 
-same_length : tie.Need-same-length
+same_length : tie.Need-shape_of-net
 same_length c = search rules
 
 returns : tie.Need-returns
@@ -62,13 +62,13 @@ returns c = let x = c.before.before.before.before in
     let s = start x in
     let a = s.args in
     let ms = (view a.net.now).channel a.s a.d in
-    ap (λ (ys : List ℕ). back x.channel-at.result (x.channel-at.result + channel_size - x.channel-at.result) a.net.now ys)
+    ap (λ (ys : List ℕ). back x.channel_at-at.result (x.channel_at-at.result + channel_size - x.channel_at-at.result) a.net.now ys)
     (c.before.before.push.ensures ∙ ap (λ (l : List Message). channel_bytes (l ++ (a.m ∷ []))) (channel-is x).1)
-    ∙ channel-back a.net.now s.pre.0 a.s a.d _ s.pre.1.0 s.pre.1.1 (at-channel x) (ms ++ (a.m ∷ []))
-    (omega (arith, s.pre.1.2, length-snoc ms a.m))
+    ∙ channel-back a.net.now s.requires.0 a.s a.d _ s.requires.1.0 s.requires.1.1 (at-channel x) (ms ++ (a.m ∷ []))
+    (omega (arith, s.requires.1.2, length-snoc ms a.m))
 
-pub send-spec : {M : Type 1} → statement M
-send-spec =
+pub send_spec : {M : Type 1} → statement M
+send_spec =
     tie.close
     (tie.spec
     wide-requires

@@ -9,15 +9,15 @@ use borrow.Author.Rules.{rules}
 use Rattle.access.proofs.change.set_children.Statement.{statement}
 use Rattle.access.proofs.change.set_children.Tie as tie
 
-set-mask-requires : tie.Need-set-mask-requires
+set-mask-requires : tie.Need-set_mask-requires
 set-mask-requires c κs = search rules
 
-same_length : tie.Need-same-length
+same_length : tie.Need-shape_of-net
 same_length c = search rules
 
 returns : tie.Need-returns
 returns c = let a = c.before.before.before.before.before.args in
-    field-made a.m a.g a.p a.net.now _ 8 (bytes 2 a.children) (λ (e : Entry). with_children e a.children) (λ e. children-put e a.children) (omega (arith, length-bytes 2 a.children)) c.before.before.set-mask.ensures
+    field-made a.m a.g a.p a.net.now _ 8 (bytes 2 a.children) (λ (e : Entry). with_children e a.children) (λ e. children-put e a.children) (omega (arith, length-bytes 2 a.children)) c.before.before.set_mask.ensures
 
-pub set-children-spec : {M : Type 1} → statement M
-set-children-spec = tie.close (tie.spec set-mask-requires same_length returns)
+pub set_children_spec : {M : Type 1} → statement M
+set_children_spec = tie.close (tie.spec set-mask-requires same_length returns)

@@ -8,15 +8,15 @@ use borrow.Author.Rules.{rules}
 use Rattle.access.proofs.change.set_member.Statement.{statement}
 use Rattle.access.proofs.change.set_member.Tie as tie
 
-set-byte-requires : tie.Need-set-byte-requires
+set-byte-requires : tie.Need-set_byte-requires
 set-byte-requires c κs = search rules
 
-same_length : tie.Need-same-length
+same_length : tie.Need-shape_of-net
 same_length c = search rules
 
 returns : tie.Need-returns
 returns c = let a = c.before.before.before.before.before.args in
-    field-made a.m a.g a.p a.net.now _ 2 (a.v ∷ []) (λ (e : Entry). with_member e a.v) (λ e. member-put e a.v) (omega (arith)) c.before.before.set-byte.ensures
+    field-made a.m a.g a.p a.net.now _ 2 (a.v ∷ []) (λ (e : Entry). with_member e a.v) (λ e. member-put e a.v) (omega (arith)) c.before.before.set_byte.ensures
 
-pub set-member-spec : {M : Type 1} → statement M
-set-member-spec = tie.close (tie.spec set-byte-requires same_length returns)
+pub set_member_spec : {M : Type 1} → statement M
+set_member_spec = tie.close (tie.spec set-byte-requires same_length returns)

@@ -8,15 +8,15 @@ use borrow.Author.Rules.{rules}
 use Rattle.access.proofs.change.set_parent.Statement.{statement}
 use Rattle.access.proofs.change.set_parent.Tie as tie
 
-set-byte-requires : tie.Need-set-byte-requires
+set-byte-requires : tie.Need-set_byte-requires
 set-byte-requires c κs = search rules
 
-same_length : tie.Need-same-length
+same_length : tie.Need-shape_of-net
 same_length c = search rules
 
 returns : tie.Need-returns
 returns c = let a = c.before.before.before.before.before.args in
-    field-made a.m a.g a.p a.net.now _ 0 (a.q ∷ []) (λ (e : Entry). with_parents e a.q e.tentative) (λ e. parent-put e a.q) (omega (arith)) c.before.before.set-byte.ensures
+    field-made a.m a.g a.p a.net.now _ 0 (a.q ∷ []) (λ (e : Entry). with_parents e a.q e.tentative) (λ e. parent-put e a.q) (omega (arith)) c.before.before.set_byte.ensures
 
-pub set-parent-spec : {M : Type 1} → statement M
-set-parent-spec = tie.close (tie.spec set-byte-requires same_length returns)
+pub set_parent_spec : {M : Type 1} → statement M
+set_parent_spec = tie.close (tie.spec set-byte-requires same_length returns)

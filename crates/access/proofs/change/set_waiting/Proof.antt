@@ -9,15 +9,15 @@ use borrow.Author.Rules.{rules}
 use Rattle.access.proofs.change.set_waiting.Statement.{statement}
 use Rattle.access.proofs.change.set_waiting.Tie as tie
 
-set-mask-requires : tie.Need-set-mask-requires
+set-mask-requires : tie.Need-set_mask-requires
 set-mask-requires c κs = search rules
 
-same_length : tie.Need-same-length
+same_length : tie.Need-shape_of-net
 same_length c = search rules
 
 returns : tie.Need-returns
 returns c = let a = c.before.before.before.before.before.args in
-    field-made a.m a.g a.p a.net.now _ 10 (bytes 2 a.waiting) (λ (e : Entry). with_waiting e a.waiting) (λ e. waiting-put e a.waiting) (omega (arith, length-bytes 2 a.waiting)) c.before.before.set-mask.ensures
+    field-made a.m a.g a.p a.net.now _ 10 (bytes 2 a.waiting) (λ (e : Entry). with_waiting e a.waiting) (λ e. waiting-put e a.waiting) (omega (arith, length-bytes 2 a.waiting)) c.before.before.set_mask.ensures
 
-pub set-waiting-spec : {M : Type 1} → statement M
-set-waiting-spec = tie.close (tie.spec set-mask-requires same_length returns)
+pub set_waiting_spec : {M : Type 1} → statement M
+set_waiting_spec = tie.close (tie.spec set-mask-requires same_length returns)

@@ -6,12 +6,12 @@ use borrow.Author.Rules.{rules}
 use Rattle.access.proofs.read.has_room.Statement.{statement}
 use Rattle.access.proofs.read.has_room.Tie as tie
 
-in-channel-requires : tie.Need-in-channel-requires
+in-channel-requires : tie.Need-in_channel-requires
 in-channel-requires c κs = search rules
 
 returns : tie.Need-returns
 unfolding room?
-returns c = ap (λ (n : ℕ). ltb n 8) c.in-channel.ensures
+returns c = ap (λ (n : ℕ). ltb n 8) c.in_channel.ensures
 
-pub has-room-spec : {M : Type 1} → statement M
-has-room-spec = tie.close (tie.spec in-channel-requires returns)
+pub has_room_spec : {M : Type 1} → statement M
+has_room_spec = tie.close (tie.spec in-channel-requires returns)

@@ -12,5 +12,5 @@ returns : tie.Need-returns
 unfolding group?
 returns c = ap (ltb _) c.groups.ensures
 
-pub is-group-spec : {M : Type 1} → statement M
-is-group-spec = tie.close (tie.spec groups-requires returns)
+pub is_group_spec : {M : Type 1} → statement M
+is_group_spec = tie.close (tie.spec groups-requires returns)

@@ -12,5 +12,5 @@ returns : tie.Need-returns
 unfolding station?
 returns c = ap (ltb _) c.stations.ensures
 
-pub is-station-spec : {M : Type 1} → statement M
-is-station-spec = tie.close (tie.spec stations-requires returns)
+pub is_station_spec : {M : Type 1} → statement M
+is_station_spec = tie.close (tie.spec stations-requires returns)

@@ -9,31 +9,31 @@ use Rattle.access.proofs.read.name_of.Tie as tie
 wide-requires : tie.Need-wide-requires
 wide-requires c κs = search rules
 
-group-at-requires : tie.Need-group-at-requires
+group-at-requires : tie.Need-group_at-at-requires
 group-at-requires c κs = search rules
 
-add_at : tie.Need-overflow-add-at
+add_at : tie.Need-overflow_add-at
 add_at c = search rules
 
 wide-requires-2 : tie.Need-wide-requires-2
 wide-requires-2 c κs = search rules
 
-name-length-requires : tie.Need-name-length-requires
+name-length-requires : tie.Need-name_length-requires
 name-length-requires c κs = search rules
 
 wide-requires-3 : tie.Need-wide-requires-3
 wide-requires-3 c κs = search rules
 
-add-result : tie.Need-overflow-add-result
+add-result : tie.Need-overflow_add-result
 add-result c = search rules
 
-sub-result : tie.Need-overflow-sub-result
+sub-result : tie.Need-slice_bounds-result-count
 sub-result c = search rules
 
-part-result-start : tie.Need-slice-bounds-result-start
+part-result-start : tie.Need-slice_bounds-result-start
 part-result-start c = search rules
 
-part-result-end : tie.Need-slice-bounds-result-end
+part-result-end : tie.Need-slice_bounds-result-end
 part-result-end c = search rules
 
 returns : tie.Need-returns
@@ -41,11 +41,11 @@ returns c = let x = c.before.before.before.before in
     let s = x.before.before.before in
     let l = s.args.net.now in
     name-is l s.requires.0 s.args.g _ _ s.requires.1
-    (ap (λ (k : ℕ). k + 1) (x.group_at.ensures.0 ∙ ap group_at x.before.wide.ensures.0))
-    (c.before.wide3.ensures.0 ∙ c.before.before.name-length.ensures ∙ ap (name_length l) c.before.before.before.wide2.ensures.0)
+    (ap (λ (k : ℕ). k + 1) (x.group_at-at.ensures.0 ∙ ap group_at x.before.wide.ensures.0))
+    (c.before.wide-3.ensures.0 ∙ c.before.before.name_length.ensures ∙ ap (name_length l) c.before.before.before.wide-2.ensures.0)
 
-pub name-of-spec : {M : Type 1} → statement M
-name-of-spec =
+pub name_of_spec : {M : Type 1} → statement M
+name_of_spec =
     tie.close
     (tie.spec
     wide-requires

@@ -23,19 +23,19 @@ only-stations N H p q = same_test _ _
     (λ t. search and_r)
     (λ t. let w = H.plan.cables p q t in and_both _ _ (and_both _ _ (lt-ltb _ _ w.0) (lt-ltb _ _ w.1)) t)
 
-is-station-requires : tie.Need-is-station-requires
+is-station-requires : tie.Need-is_station-requires
 is-station-requires c κs = search rules
 
 -- p is one
-below : (x : tie.Else1) → let a = x.before.before.before.args in a.p < (view a.net.now).stations
+below : (x : tie.Else-not-is_station) → let a = x.before.before.before.args in a.p < (view a.net.now).stations
 unfolding station?
-below x = ltb-true _ _ (sym x.before.is-station.ensures ∙ not-false _ x.if1.false)
+below x = ltb-true _ _ (sym x.before.is_station.ensures ∙ not-false _ x.if-not-is_station.false-raw)
 
-returns : tie.Need-returns
+returns : tie.Need-returns-then-not-is_station
 unfolding near?
 returns c = let x = c.before in
     let a = x.before.before.args in
-    let none : station? (view a.net.now) a.p ≡ false = sym x.is-station.ensures ∙ not-true _ c.if1.true in
+    let none : station? (view a.net.now) a.p ≡ false = sym x.is_station.ensures ∙ not-true _ c.if-not-is_station.true-raw in
     rw none refl
 
 wide-requires : tie.Need-wide-requires
@@ -49,7 +49,7 @@ neighbours-requires c κs = let x = c.before in
 has-requires : tie.Need-has-requires
 has-requires c κs = search rules
 
-returns-2 : tie.Need-returns-2
+returns-2 : tie.Need-returns
 unfolding view plan_in
 returns-2 c = let x = c.before.before.before in
     let s = x.before.before.before in
@@ -57,5 +57,5 @@ returns-2 c = let x = c.before.before.before in
     let mask = c.before.neighbours.ensures ∙ ap (neighbours l) c.before.before.wide.ensures.0 ∙ sym (plan-mask l s.args.p (below x)) in
     c.has.ensures ∙ ap (λ (k : ℕ). has k s.args.q) mask ∙ sym (only-stations (view l) (seen _ _ s.requires.shape) s.args.p s.args.q)
 
-pub near-spec : {M : Type 1} → statement M
-near-spec = tie.close (tie.spec is-station-requires returns wide-requires neighbours-requires has-requires returns-2)
+pub near_spec : {M : Type 1} → statement M
+near_spec = tie.close (tie.spec is-station-requires returns wide-requires neighbours-requires has-requires returns-2)

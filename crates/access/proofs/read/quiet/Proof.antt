@@ -22,25 +22,25 @@ rest a b t =
     let e : b ≡ a + b = omega (arith, none) in
     ap (λ (n : ℕ). eqb n 0) e
 
-none-of-requires : tie.Need-none-of-requires
+none-of-requires : tie.Need-none_of-requires
 none-of-requires c κs = search rules
 
-returns : tie.Need-returns
+returns : tie.Need-returns-then-not-none_of
 unfolding under_way
 returns c = let x = c.before in
     let a = x.before.before.args in
     let C = (view a.net.now).channel in
-    some (count_of request a.g (C a.p a.q)) (count_of reply a.g (C a.q a.p)) (sym x.none_of.ensures ∙ not-true _ c.if1.true)
+    some (count_of request a.g (C a.p a.q)) (count_of reply a.g (C a.q a.p)) (sym x.none_of.ensures ∙ not-true _ c.if-not-none_of.true-raw)
 
-none-of-requires-2 : tie.Need-none-of-requires-2
+none-of-requires-2 : tie.Need-none_of-requires-2
 none-of-requires-2 c κs = search rules
 
-returns-2 : tie.Need-returns-2
+returns-2 : tie.Need-returns
 unfolding under_way
 returns-2 c = let x = c.before.before in
     let a = x.before.before.args in
     let C = (view a.net.now).channel in
-    c.none-of2.ensures ∙ rest (count_of request a.g (C a.p a.q)) (count_of reply a.g (C a.q a.p)) (sym x.none_of.ensures ∙ not-false _ c.before.if1.false)
+    c.none_of-2.ensures ∙ rest (count_of request a.g (C a.p a.q)) (count_of reply a.g (C a.q a.p)) (sym x.none_of.ensures ∙ not-false _ c.before.if-not-none_of.false-raw)
 
-pub quiet-spec : {M : Type 1} → statement M
-quiet-spec = tie.close (tie.spec none-of-requires returns none-of-requires-2 returns-2)
+pub quiet_spec : {M : Type 1} → statement M
+quiet_spec = tie.close (tie.spec none-of-requires returns none-of-requires-2 returns-2)

@@ -21,5 +21,5 @@ returns c = let s = c.before.before.before in
     let e = c.root.ensures ∙ ap (root l) c.before.wide.ensures.0 ∙ sym (plan-root l s.args.g (omega arith)) in
     (e, rw e ((seen _ l s.requires.0.shape).plan.roots s.args.g s.requires.1))
 
-pub root-of-spec : {M : Type 1} → statement M
-root-of-spec = tie.close (tie.spec wide-requires root-requires returns)
+pub root_of_spec : {M : Type 1} → statement M
+root_of_spec = tie.close (tie.spec wide-requires root-requires returns)
