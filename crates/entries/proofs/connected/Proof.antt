@@ -7,5 +7,5 @@ returns : tie.Need-returns
 unfolding rule.connected
 returns c = refl
 
-pub connected-spec : {M : Type 1} → statement M
-connected-spec = tie.close (tie.spec returns)
+pub connected_spec : {M : Type 1} → statement M
+connected_spec = tie.close (tie.spec returns)

@@ -7,5 +7,5 @@ returns : tie.Need-returns
 unfolding rule.joins
 returns c = refl
 
-pub joins-spec : {M : Type 1} → statement M
-joins-spec = tie.close (tie.spec returns)
+pub joins_spec : {M : Type 1} → statement M
+joins_spec = tie.close (tie.spec returns)

@@ -11,7 +11,7 @@ use Rattle.entries.proofs.may_ask.Tie as tie
 joins-requires : tie.Need-joins-requires
 joins-requires c κs = search rules
 
-may-ask-at-requires : tie.Need-may-ask-at-requires
+may-ask-at-requires : tie.Need-may_ask_at-requires
 may-ask-at-requires c κs = search rules
 
 -- the tests of the station first, and then those of the neighbour
@@ -21,8 +21,8 @@ grouped false y z = refl
 
 returns : tie.Need-returns
 returns c = let a = c.before.before.args in
-    (λ i. not (eqb a.p a.root) && c.before.joins.ensures i && c.may-ask-at.ensures i)
+    (λ i. not (eqb a.p a.root) && c.before.joins.ensures i && c.may_ask_at.ensures i)
     ∙ grouped (not (eqb a.p a.root) && joins a.e) (not (eqb a.q nil)) (not (has a.e.waiting a.q))
 
-pub may-ask-spec : {M : Type 1} → statement M
-may-ask-spec = tie.close (tie.spec joins-requires may-ask-at-requires returns)
+pub may_ask_spec : {M : Type 1} → statement M
+may_ask_spec = tie.close (tie.spec joins-requires may-ask-at-requires returns)

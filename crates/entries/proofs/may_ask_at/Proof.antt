@@ -7,19 +7,19 @@ use borrow.Author.Rules.{rules}
 use Rattle.entries.proofs.may_ask_at.Statement.{statement}
 use Rattle.entries.proofs.may_ask_at.Tie as tie
 
-returns : tie.Need-returns
-returns c = rw c.if1.true refl
+returns : tie.Need-returns-then-q-eq-NIL
+returns c = rw c.if-q-eq-NIL.true refl
 
 wide-requires : tie.Need-wide-requires
 wide-requires c κs = search rules
 
-has-at-requires : tie.Need-has-at-requires
-has-at-requires c κs = let x = c.before in omega (arith, c.wide.ensures.0, x.before.requires x.if1.false)
+has-at-requires : tie.Need-has_at-requires
+has-at-requires c κs = let x = c.before in omega (arith, c.wide.ensures.0, x.before.requires x.if-q-eq-NIL.false)
 
-returns-2 : tie.Need-returns-2
+returns-2 : tie.Need-returns
 returns-2 c = let x = c.before.before in
     let a = x.before.args in
-    rw (ne_eqb _ _ x.if1.false) (ap not (c.has-at.ensures ∙ ap (has a.waiting) c.before.wide.ensures.0))
+    rw (ne_eqb _ _ x.if-q-eq-NIL.false) (ap not (c.has_at.ensures ∙ ap (has a.waiting) c.before.wide.ensures.0))
 
-pub may-ask-at-spec : {M : Type 1} → statement M
-may-ask-at-spec = tie.close (tie.spec returns wide-requires has-at-requires returns-2)
+pub may_ask_at_spec : {M : Type 1} → statement M
+may_ask_at_spec = tie.close (tie.spec returns wide-requires has-at-requires returns-2)

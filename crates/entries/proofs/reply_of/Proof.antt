@@ -11,5 +11,5 @@ bit-requires c κs = search rules
 returns : tie.Need-returns
 returns c = cc
 
-pub reply-of-spec : {M : Type 1} → statement M
-reply-of-spec = tie.close (tie.spec connected-requires bit-requires returns)
+pub reply_of_spec : {M : Type 1} → statement M
+reply_of_spec = tie.close (tie.spec connected-requires bit-requires returns)

@@ -8,5 +8,5 @@ joins-requires c κs = search rules
 returns : tie.Need-returns
 returns c = cc
 
-pub stays-spec : {M : Type 1} → statement M
-stays-spec = tie.close (tie.spec joins-requires returns)
+pub stays_spec : {M : Type 1} → statement M
+stays_spec = tie.close (tie.spec joins-requires returns)

@@ -8,5 +8,5 @@ with-requires c κs = search rules
 returns : tie.Need-returns
 returns c = cc
 
-pub with-child-spec : {M : Type 1} → statement M
-with-child-spec = tie.close (tie.spec with-requires returns)
+pub with_child_spec : {M : Type 1} → statement M
+with_child_spec = tie.close (tie.spec with-requires returns)

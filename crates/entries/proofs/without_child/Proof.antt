@@ -8,5 +8,5 @@ without-requires c κs = search rules
 returns : tie.Need-returns
 returns c = cc
 
-pub without-child-spec : {M : Type 1} → statement M
-without-child-spec = tie.close (tie.spec without-requires returns)
+pub without_child_spec : {M : Type 1} → statement M
+without_child_spec = tie.close (tie.spec without-requires returns)
