@@ -5,5 +5,5 @@ use Rattle.fresh.proofs.blank.Tie as tie
 returns : tie.Need-returns
 returns c = refl
 
-pub blank-spec : {M : Type 1} → statement M
-blank-spec = tie.close (tie.spec returns)
+pub blank_spec : {M : Type 1} → statement M
+blank_spec = tie.close (tie.spec returns)

@@ -10,34 +10,34 @@ use borrow.Author.Rules.{rules}
 use Rattle.fresh.proofs.blank_entry.Statement.{statement}
 use Rattle.fresh.proofs.blank_entry.Tie as tie
 
-stretch-at-requires : tie.Need-stretch-at-requires
+stretch-at-requires : tie.Need-stretch_at-a-requires
 stretch-at-requires c κs = search rules
 
-stretch-size-requires : tie.Need-stretch-size-requires
+stretch-size-requires : tie.Need-stretch_size-n-requires
 stretch-size-requires c κs = search rules
 
-add-write-entry : tie.Need-overflow-add-write-entry
+add-write-entry : tie.Need-overflow_add-a
 add-write-entry c = search rules
 
-sub-write-entry : tie.Need-overflow-sub-write-entry
+sub-write-entry : tie.Need-slice_bounds-write_entry-count
 sub-write-entry c = search rules
 
-part-write-entry-start : tie.Need-slice-bounds-write-entry-start
+part-write-entry-start : tie.Need-slice_bounds-write_entry-start
 part-write-entry-start c = search rules
 
-part-write-entry-end : tie.Need-slice-bounds-write-entry-end
+part-write-entry-end : tie.Need-slice_bounds-write_entry-end
 part-write-entry-end c = search rules
 
-in-stretch-requires : tie.Need-in-stretch-requires
+in-stretch-requires : tie.Need-in_stretch-requires
 in-stretch-requires c κs = search rules
 
 blank-requires : tie.Need-blank-requires
 blank-requires c κs = search rules
 
-write-entry-requires : tie.Need-write-entry-requires
+write-entry-requires : tie.Need-write_entry-requires
 write-entry-requires c κs = search rules
 
-same_length : tie.Need-same-length
+same_length : tie.Need-shape_of-net
 same_length c = search rules
 
 returns : tie.Need-returns
@@ -48,15 +48,15 @@ returns c = let w = c.before.before in
     let z = k.before.before in
     let x = z.before in
     let l = x.before.before.args.net.now in
-    let a = x.stretch-at.result in
-    let n = z.stretch-size.result in
+    let a = x.stretch_at-a.result in
+    let n = z.stretch_size-n.result in
     let e = entry_bytes b.blank.result in
-    ap (back a (a + n - a) l) w.write-entry.ensures
-    ∙ lent_back a (a + n - a) l k.in-stretch.result e (omega (arith, length-entry_bytes b.blank.result, z.stretch-size.ensures, k.in-stretch.ensures.1))
-    ∙ (λ i. splice l (x.stretch-at.ensures.0 i + k.in-stretch.ensures.0 i) (entry_bytes (b.blank.ensures i)))
+    ap (back a (a + n - a) l) w.write_entry.ensures
+    ∙ lent_back a (a + n - a) l k.in_stretch.result e (omega (arith, length-entry_bytes b.blank.result, z.stretch_size-n.ensures, k.in_stretch.ensures.1))
+    ∙ (λ i. splice l (x.stretch_at-a.ensures.0 i + k.in_stretch.ensures.0 i) (entry_bytes (b.blank.ensures i)))
 
-pub blank-entry-spec : {M : Type 1} → statement M
-blank-entry-spec =
+pub blank_entry_spec : {M : Type 1} → statement M
+blank_entry_spec =
     tie.close
     (tie.spec
     stretch-at-requires

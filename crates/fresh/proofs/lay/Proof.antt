@@ -14,7 +14,7 @@ use Rattle.fresh.proofs.lay.Tie as tie
 stations-requires : tie.Need-stations-requires
 stations-requires c κs = search rules
 
-wide-requires : tie.Need-wide-requires
+wide-requires : tie.Need-wide-n-requires
 wide-requires c κs = search rules
 
 fill-requires : tie.Need-fill-requires
@@ -23,7 +23,7 @@ fill-requires c κs = search rules
 put-requires : tie.Need-put-requires
 put-requires c κs = search rules
 
-cast-put32 : tie.Need-overflow-cast-put32
+cast-put32 : tie.Need-overflow_cast-put32
 cast-put32 c = search rules
 
 put32-requires : tie.Need-put32-requires
@@ -35,13 +35,13 @@ routes-requires c κs = search rules
 groups-requires : tie.Need-groups-requires
 groups-requires c κs = search rules
 
-wide-requires-2 : tie.Need-wide-requires-2
+wide-requires-2 : tie.Need-wide-requires
 wide-requires-2 c κs = search rules
 
 entries-requires : tie.Need-entries-requires
 entries-requires c κs = search rules
 
-same_length : tie.Need-same-length
+same_length : tie.Need-shape_of-net
 same_length c = search rules
 
 -- the fill, the put of the plan, the put of the length, the routes and the entries, one after the other
@@ -58,13 +58,13 @@ returns c = let e = c.before.before in
     let zeros = f.fill.ensures ∙ ap (λ (k : ℕ). replicate k 0) s.requires.3 in
     let put = p.put.ensures.bytes ∙ ap (λ (l : List ℕ). splice l 0 plan) zeros in
     let front = h.put32.ensures ∙ ap (λ (l : List ℕ). splice l 0 (bytes 4 net_length)) put in
-    let stations = f.before.before.wide.ensures.0 ∙ n.stations.ensures in
+    let stations = f.before.before.wide-n.ensures.0 ∙ n.stations.ensures in
     let routed = r.routes.ensures ∙ (λ i. in_rows route_nil (front i) (stations i) (stations i)) in
-    let groups = e.before.wide2.ensures.0 ∙ e.before.before.groups.ensures in
+    let groups = e.before.wide.ensures.0 ∙ e.before.before.groups.ensures in
     e.entries.ensures ∙ (λ i. in_rows entry_blank (routed i) (groups i) (stations i))
 
-pub lay-spec : {M : Type 1} → statement M
-lay-spec =
+pub lay_spec : {M : Type 1} → statement M
+lay_spec =
     tie.close
     (tie.spec
     stations-requires
