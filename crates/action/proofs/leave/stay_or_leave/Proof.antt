@@ -13,31 +13,31 @@ use Rattle.action.proofs.leave.stay_or_leave.Tie as tie
 stays-requires : tie.Need-stays-requires
 stays-requires c κs = search rules
 
-set-parent-requires : tie.Need-set-parent-requires
+set-parent-requires : tie.Need-set_parent-requires
 set-parent-requires c κs = search rules
 
-set-tentative-requires : tie.Need-set-tentative-requires
+set-tentative-requires : tie.Need-set_tentative-requires
 set-tentative-requires c κs = search rules
 
-same_length : tie.Need-same-length
+same_length : tie.Need-shape_of-net
 same_length c = search rules
 
-returns : tie.Need-returns
+returns : tie.Need-returns-then-not-stays
 returns c = let t = c.before.before in
     let q = t.before.before.before.before in
     let x = q.before.before in
     let a = x.before.before.before.args in
-    let no = sym x.before.stays.ensures ∙ not-true _ x.if1.true in
-    subst (λ (b : Bool). EntryMade a.m a.net.now t.set-tentative.new.0 a.g a.p (λ e. cond b e (leave e))) (sym no)
-    (made_then a.m a.g a.p _ _ _ (λ (e : Entry). with_parents e nil e.tentative) (λ (e : Entry). with_parents e e.parent nil) q.set-parent.ensures t.set-tentative.ensures)
+    let no = sym x.before.stays.ensures ∙ not-true _ x.if-not-stays.true-raw in
+    subst (λ (b : Bool). EntryMade a.m a.net.now t.set_tentative.new.net a.g a.p (λ e. cond b e (leave e))) (sym no)
+    (made_then a.m a.g a.p _ _ _ (λ (e : Entry). with_parents e nil e.tentative) (λ (e : Entry). with_parents e e.parent nil) q.set_parent.ensures t.set_tentative.ensures)
 
-returns-2 : tie.Need-returns-2
+returns-2 : tie.Need-returns-else-not-stays
 returns-2 c = let a = c.before.before.before.args in
-    let yes· = sym c.before.stays.ensures ∙ not-false _ c.if1.false in
+    let yes· = sym c.before.stays.ensures ∙ not-false _ c.if-not-stays.false-raw in
     subst (λ (b : Bool). EntryMade a.m a.net.now a.net.now a.g a.p (λ e. cond b e (leave e))) (sym yes·) (made-same a.m a.g a.p a.net.now)
 
-pub stay-or-leave-spec : {M : Type 1} → statement M
-stay-or-leave-spec =
+pub stay_or_leave_spec : {M : Type 1} → statement M
+stay_or_leave_spec =
     tie.close
     (tie.spec
     stays-requires

@@ -16,5 +16,5 @@ returns c = let a = c.before.before.args in
     let e : ◌≡◌ {A = Bool} _ _ = λ i. c.near.ensures i && eqb a.c 0 in
     (e, λ t. cable-in (view a.net.now) (seen _ _ c.before.before.requires.shape) a.s a.d (eqb a.c 0) (sym e ∙ t))
 
-pub of-cable-spec : {M : Type 1} → statement M
-of-cable-spec = tie.close (tie.spec near-requires returns)
+pub of_cable_spec : {M : Type 1} → statement M
+of_cable_spec = tie.close (tie.spec near-requires returns)

@@ -17,5 +17,5 @@ returns c = let a = c.before.before.args in
     let e : ◌≡◌ {A = Bool} _ _ = λ i. c.near.ensures i && ltb a.i capacity in
     (e, λ t. cable-in (view a.net.now) (seen _ _ c.before.before.requires.shape) a.s a.d (ltb a.i capacity) (sym e ∙ t))
 
-pub of-position-spec : {M : Type 1} → statement M
-of-position-spec = tie.close (tie.spec near-requires returns)
+pub of_position_spec : {M : Type 1} → statement M
+of_position_spec = tie.close (tie.spec near-requires returns)
