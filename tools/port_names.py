@@ -58,7 +58,7 @@ def snake(word):
 
 def turned(path, text):
     apart = {old: new for crate, file, old, new in APART if f"crates/{crate}/{file}" in path}
-    text = TOKEN.sub(lambda m: apart.get(m.group()) or snake(m.group()), text)
+    text = TOKEN.sub(lambda m: (m.string[m.start() - 1 : m.start()] != "." and apart.get(m.group())) or snake(m.group()), text)
     for crate, folder, m in MODULES:
         text = text.replace(f"Rattle.{crate}.{folder}.{m}.", f"Rattle.{crate}.{folder}.{m.capitalize()}.")
     return text

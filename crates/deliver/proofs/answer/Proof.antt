@@ -56,11 +56,11 @@ abbrev lists : tie.Start → Net
 lists s = set_entry (out s) s.args.g s.args.d (with_child ((N s).entry s.args.g s.args.d) s.args.s)
 
 -- the bytes once the message is taken out
-taken_out : (x : tie.After-take-at) → let s = start x in let l = x.took.new.0 in
+taken_out : (x : tie.After-take-at) → let s = start x in let l = x.take_at.new.0 in
     (IsNet l) × (view l ≡ out s) × ((M : Net) → bytes_like l M ≡ bytes_like s.args.net.now M) × (mark_of s.args.net.now ≡ mark_of l)
-taken_out x = let s = start x in taken (N s) (H s) s.args.s s.args.d s.pre.1.1.0 _ _ x.took.ensures
+taken_out x = let s = start x in taken (N s) (H s) s.args.s s.args.d s.pre.1.1.0 _ _ x.take_at.ensures
 
-within : (x : tie.After-take-at) → let s = start x in let l = x.took.new.0 in (s.args.g < (view l).groups) × (s.args.d < (view l).stations)
+within : (x : tie.After-take-at) → let s = start x in let l = x.take_at.new.0 in (s.args.g < (view l).groups) × (s.args.d < (view l).stations)
 unfolding take_at set_channel
 within x = let s = start x in subst (λ (M : Net). (s.args.g < M.groups) × (s.args.d < M.stations)) (sym (taken_out x).1) (in-groups s, to s)
 
@@ -82,7 +82,7 @@ written x = let w = with-child x in
     let a = s.args in
     let r = s.pre.0 in
     made_after a.m a.g a.d _ (out s) _ _ (λ (e : Entry). with_children e w.with-child.result.children) s.pre.1.0 r.stations_most r.groups_most (in-groups s) (to s)
-    (took w).took.ensures x.set-children.ensures
+    (took w).take_at.ensures x.set-children.ensures
     ∙ (λ i. bytes_like a.net.now (set_entry (out s) a.g a.d (with_children ((N s).entry a.g a.d) (entry w i).children)))
 
 after : (x : tie.After-set-children) → let s = from (with-child x) in let l = x.set-children.new.0 in
