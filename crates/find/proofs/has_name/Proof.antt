@@ -6,15 +6,15 @@ use borrow.Author.Rules.{rules}
 use Rattle.find.proofs.has_name.Statement.{statement}
 use Rattle.find.proofs.has_name.Tie as tie
 
-name-of-requires : tie.Need-name-of-requires
+name-of-requires : tie.Need-name_of-requires
 name-of-requires c κs = search rules
 
-same-name-requires : tie.Need-same-name-requires
+same-name-requires : tie.Need-same_name-requires
 same-name-requires c κs = search rules
 
 returns : tie.Need-returns
 returns c = let a = c.before.before.before.before.args in
-    c.same-name.ensures ∙ ap (λ (x : List ℕ). same_name x a.name.now) c.before.name_of.ensures.0
+    c.same_name.ensures ∙ ap (λ (x : List ℕ). same_name x a.name.now) c.before.name_of.ensures.0
 
-pub has-name-spec : {M : Type 1} → statement M
-has-name-spec = tie.close (tie.spec name-of-requires same-name-requires returns)
+pub has_name_spec : {M : Type 1} → statement M
+has_name_spec = tie.close (tie.spec name-of-requires same-name-requires returns)
