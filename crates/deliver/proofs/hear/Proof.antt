@@ -21,16 +21,16 @@ H : (s : tie.Start) → Shaped (N s)
 H s = seen _ _ s.requires.0.shape
 
 -- the bytes once the receiver has heard it
-after : (x : tie.After-listen) → let s = x.before.before.before in let l = x.listen.new.0 in
+after : (x : tie.After-listen-case) → let s = x.before.before.before in let l = x.listen-case.new.net in
     (IsNet l) × (view l ≡ heard (N s) s.args.s s.args.d s.args.reply) × ((M : Net) → bytes_like l M ≡ bytes_like s.args.net.now M)
 after x = let s = x.before.before.before in
-    let w = is-net-after _ _ _ (hears (N s) (H s) s.args.s s.args.d s.requires.1.1.0 s.args.reply s.requires.1.1.1) x.listen.ensures.1 in
+    let w = is-net-after _ _ _ (hears (N s) (H s) s.args.s s.args.d s.requires.1.1.0 s.args.reply s.requires.1.1.1) x.listen-case.ensures.1 in
     (w.0, w.1, w.2)
 
-listen-requires : tie.Need-listen-requires
+listen-requires : tie.Need-listen-case-requires
 listen-requires c κs = search rules
 
-take-at-requires : tie.Need-take-at-requires
+take-at-requires : tie.Need-take_at-requires
 unfolding heard set_entry
 take-at-requires c κs = let x = c.before.before.before in
     let s = x.before.before.before in
@@ -40,7 +40,7 @@ take-at-requires c κs = let x = c.before.before.before in
           (sender (N s) (H s) a.s a.d s.requires.1.1.0, receiver (N s) (H s) a.s a.d s.requires.1.1.0, s.requires.1.1.0.some),
     )
 
-same_length : tie.Need-same-length
+same_length : tie.Need-shape_of-net
 same_length c = search rules
 
 returns : tie.Need-returns
@@ -48,7 +48,7 @@ unfolding heard set_entry take_at set_channel
 returns c = let z = c.before.before in
     let x = z.before.before.before.before in
     let a = x.before.before.before.args in
-    (x.listen.ensures.0, z.take_at.ensures ∙ (after x).2 _ ∙ (λ i. bytes_like a.net.now (take_at ((after x).1 i) a.s a.d 0)))
+    (x.listen-case.ensures.0, z.take_at.ensures ∙ (after x).2 _ ∙ (λ i. bytes_like a.net.now (take_at ((after x).1 i) a.s a.d 0)))
 
-pub hear-spec : {M : Type 1} → statement M
-hear-spec = tie.close (tie.spec listen-requires take-at-requires same_length returns)
+pub hear_spec : {M : Type 1} → statement M
+hear_spec = tie.close (tie.spec listen-requires take-at-requires same_length returns)
