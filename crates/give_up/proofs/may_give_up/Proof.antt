@@ -8,28 +8,28 @@ use Rattle.give_up.proofs.may_give_up.Statement.{statement}
 use Rattle.give_up.proofs.may_give_up.Tie as tie
 
 -- the test that is made, of the net's entry
-waits : (x : tie.After-has-at) → let a = x.before.before.before.before.args in x.has-at.result ≡ has ((view a.net.now).entry a.g a.p).waiting a.q
-waits x = x.has-at.ensures ∙ (λ i. has (x.before.before.entry-as.ensures i).waiting (x.before.wide.ensures.0 i))
+waits : (x : tie.After-has_at) → let a = x.before.before.before.before.args in x.has_at.result ≡ has ((view a.net.now).entry a.g a.p).waiting a.q
+waits x = x.has_at.ensures ∙ (λ i. has (x.before.before.entry_as-e.ensures i).waiting (x.before.wide.ensures.0 i))
 
-entry-as-requires : tie.Need-entry-as-requires
+entry-as-requires : tie.Need-entry_as-e-requires
 entry-as-requires c κs = search rules
 
 wide-requires : tie.Need-wide-requires
 wide-requires c κs = search rules
 
-has-at-requires : tie.Need-has-at-requires
+has-at-requires : tie.Need-has_at-requires
 has-at-requires c κs = search rules
 
-returns : tie.Need-returns
+returns : tie.Need-returns-then-not-has_at
 unfolding rule.give_up
-returns c = rw (sym (waits c.before) ∙ not-true _ c.if1.true) refl
+returns c = rw (sym (waits c.before) ∙ not-true _ c.if-not-has_at.true-raw) refl
 
 quiet-requires : tie.Need-quiet-requires
 quiet-requires c κs = search rules
 
-returns-2 : tie.Need-returns-2
+returns-2 : tie.Need-returns
 unfolding rule.give_up
-returns-2 c = rw (sym (waits c.before.before) ∙ not-false _ c.before.if1.false) c.quiet.ensures
+returns-2 c = rw (sym (waits c.before.before) ∙ not-false _ c.before.if-not-has_at.false-raw) c.quiet.ensures
 
-pub may-give-up-spec : {M : Type 1} → statement M
-may-give-up-spec = tie.close (tie.spec entry-as-requires wide-requires has-at-requires returns quiet-requires returns-2)
+pub may_give_up_spec : {M : Type 1} → statement M
+may_give_up_spec = tie.close (tie.spec entry-as-requires wide-requires has-at-requires returns quiet-requires returns-2)
