@@ -25,77 +25,77 @@ abbrev R : tie.Start → Rule Net
 R s = rule.drop_child (N s) s.args.g s.args.p s.args.x
 
 -- the places, seen from those after them
-abbrev start : tie.Else1 → tie.Start
-start x = x.before.before.before.before
+abbrev start : tie.Else-not-of_pair → tie.Start
+start x = x.before.before.before
 
-abbrev else1 : tie.Else2 → tie.Else1
-else1 x = x.before.before.before
+abbrev else1 : tie.Else-not-may_drop → tie.Else-not-of_pair
+else1 x = x.before.before
 
-abbrev else2 : tie.After-without-child → tie.Else2
-else2 x = x.before.before.before.before.before
+abbrev else2 : tie.After-without_child-e → tie.Else-not-may_drop
+else2 x = x.before.before.before
 
-abbrev without-child : tie.After-set-children → tie.After-without-child
+abbrev without-child : tie.After-set_children → tie.After-without_child-e
 without-child x = x.before.before
 
 -- the operands are in range
-operands : (x : tie.Else1) → (R (start x)).operands ≡ true
+operands : (x : tie.Else-not-of_pair) → (R (start x)).operands ≡ true
 unfolding rule.drop_child
-operands x = sym x.before.of_pair.ensures.0 ∙ not-false _ x.if1.false
+operands x = sym x.before.of_pair.ensures.0 ∙ not-false _ x.if-not-of_pair.false-raw
 
-in-range : (x : tie.Else1) → let s = start x in (s.args.g < (N s).groups) × (s.args.p < (N s).stations) × (s.args.x < (N s).stations)
-in-range x = x.before.of_pair.ensures.1 (not-false _ x.if1.false)
+in-range : (x : tie.Else-not-of_pair) → let s = start x in (s.args.g < (N s).groups) × (s.args.p < (N s).stations) × (s.args.x < (N s).stations)
+in-range x = x.before.of_pair.ensures.1 (not-false _ x.if-not-of_pair.false-raw)
 
-enabled : (x : tie.Else2) → (R (start (else1 x))).enabled ≡ true
-enabled x = sym x.before.may-drop.ensures ∙ not-false _ x.if2.false
+enabled : (x : tie.Else-not-may_drop) → (R (start (else1 x))).enabled ≡ true
+enabled x = sym x.before.may_drop.ensures ∙ not-false _ x.if-not-may_drop.false-raw
 
 -- the entry without the child
 abbrev dropped : tie.Start → Entry
 dropped s = without_child ((N s).entry s.args.g s.args.p) s.args.x
 
-entry : (x : tie.After-without-child) → x.without-child.result ≡ dropped (start (else1 (else2 x)))
-entry x = x.without-child.ensures ∙ ap (λ (e : Entry). without_child e (start (else1 (else2 x))).args.x) x.before.entry-as.ensures
+entry : (x : tie.After-without_child-e) → x.without_child-e.result ≡ dropped (start (else1 (else2 x)))
+entry x = x.without_child-e.ensures ∙ ap (λ (e : Entry). without_child e (start (else1 (else2 x))).args.x) x.before.entry_as.ensures
 
-of-pair-requires : tie.Need-of-pair-requires
+of-pair-requires : tie.Need-of_pair-requires
 of-pair-requires c κs = search rules
 
-same_length : tie.Need-same-length
+same_length : tie.Need-shape_of-net-then-not-of_pair
 same_length c = search rules
 
-returns : tie.Need-returns
+returns : tie.Need-returns-then-not-of_pair
 unfolding rule.drop_child
-returns c = ends-3 _ _ (sym c.before.of_pair.ensures.0 ∙ not-true _ c.if1.true)
+returns c = ends-3 _ _ (sym c.before.of_pair.ensures.0 ∙ not-true _ c.if-not-of_pair.true-raw)
 
-may-drop-requires : tie.Need-may-drop-requires
-may-drop-requires c κs = let x = c.before in let s = start x in let w = in-range x in (s.pre.0, (s.pre.1, w.0, w.1, w.2))
+may-drop-requires : tie.Need-may_drop-requires
+may-drop-requires c κs = let x = c in let s = start x in let w = in-range x in (s.requires.0, (s.requires.1, w.0, w.1, w.2))
 
-same-length-2 : tie.Need-same-length-2
+same-length-2 : tie.Need-shape_of-net-then-not-may_drop
 same-length-2 c = search rules
 
-returns-2 : tie.Need-returns-2
+returns-2 : tie.Need-returns-then-not-may_drop
 unfolding rule.drop_child
-returns-2 c = let y = c.before in ends-4 _ _ (operands y.before.before) (sym y.may-drop.ensures ∙ not-true _ c.if2.true)
+returns-2 c = let y = c.before in ends-4 _ _ (operands y.before) (sym y.may_drop.ensures ∙ not-true _ c.if-not-may_drop.true-raw)
 
-root-of-requires : tie.Need-root-of-requires
-root-of-requires c κs = let x = else1 c.before in ((start x).pre.0, (in-range x).0)
+root-of-requires : tie.Need-root_of-root-requires
+root-of-requires c κs = let x = else1 c in ((start x).requires.0, (in-range x).0)
 
-entry-as-requires : tie.Need-entry-as-requires
-entry-as-requires c κs = let x = else1 c.before.before.before in let s = start x in let w = in-range x in (s.pre.0, (s.pre.1, w.0, w.1))
+entry-as-requires : tie.Need-entry_as-requires
+entry-as-requires c κs = let x = else1 c.before in let s = start x in let w = in-range x in (s.requires.0, (s.requires.1, w.0, w.1))
 
-without-child-requires : tie.Need-without-child-requires
-without-child-requires c κs = let x = else1 c.before.before.before.before in omega (arith, (in-range x).2, (start x).pre.0.stations_most)
+without-child-requires : tie.Need-without_child-e-requires
+without-child-requires c κs = let x = else1 c.before.before in omega (arith, (in-range x).2, (start x).requires.0.stations_most)
 
-set-children-requires : tie.Need-set-children-requires
-set-children-requires c κs = let x = else1 (else2 c.before) in own _ (start x).pre.0 _ _ (in-range x).0 (in-range x).1
+set-children-requires : tie.Need-set_children-requires
+set-children-requires c κs = let x = else1 (else2 c.before) in own _ (start x).requires.0 _ _ (in-range x).0 (in-range x).1
 
-stay-or-leave-requires : tie.Need-stay-or-leave-requires
+stay-or-leave-requires : tie.Need-stay_or_leave-requires
 stay-or-leave-requires c κs = let x = else1 (else2 (without-child c.before.before.before)) in
-    let o = own _ (start x).pre.0 _ _ (in-range x).0 (in-range x).1 in
+    let o = own _ (start x).requires.0 _ _ (in-range x).0 (in-range x).1 in
     (search rules, o.1, o.2)
 
-same-length-3 : tie.Need-same-length-3
+same-length-3 : tie.Need-shape_of-net
 same-length-3 c = search rules
 
-returns-3 : tie.Need-returns-3
+returns-3 : tie.Need-returns
 unfolding rule.drop_child stay_or_leave
 returns-3 c = let z = c.before.before in
     let k = z.before.before.before.before in
@@ -103,18 +103,18 @@ returns-3 c = let z = c.before.before in
     let x = else1 (else2 w) in
     let s = start x in
     let a = s.args in
-    let root = w.before.before.before.root-of in
-    let f : Entry → Entry = λ e. with_children e w.without-child.result.children in
-    let h : Entry → Entry = λ e. cond (eqb a.p root.result || joins w.without-child.result) e (leave e) in
-    let both : EntryMade a.m a.net.now z.stay-or-leave.new.0 a.g a.p (λ e. h (f e)) =
-    made_then a.m a.g a.p _ _ _ f h k.set-children.ensures z.stay-or-leave.ensures in
+    let root = w.before.before.root_of-root in
+    let f : Entry → Entry = λ e. with_children e w.without_child-e.result.children in
+    let h : Entry → Entry = λ e. cond (eqb a.p root.result || joins w.without_child-e.result) e (leave e) in
+    let both : EntryMade a.m a.net.now z.stay_or_leave.new.net a.g a.p (λ e. h (f e)) =
+    made_then a.m a.g a.p _ _ _ f h k.set_children.ensures z.stay_or_leave.ensures in
     let put : Entry → Entry = λ e. with_children ((N s).entry a.g a.p) e.children in
     ends-0 _ _ refl refl (record { operands = operands x; enabled = enabled (else2 w); clock_room = refl; send_room = refl })
-    (made _ s.pre.0 a.m a.g a.p _ (λ e. h (f e)) s.pre.1 (in-range x).0 (in-range x).1 both
+    (made _ s.requires.0 a.m a.g a.p _ (λ e. h (f e)) s.requires.1 (in-range x).0 (in-range x).1 both
     ∙ (λ i. bytes_like a.net.now (set_entry (N s) a.g a.p (cond (eqb a.p (root.ensures.0 i) || joins (entry w i)) (put (entry w i)) (leave (put (entry w i)))))))
 
-pub drop-child-spec : {M : Type 1} → statement M
-drop-child-spec =
+pub drop_child_spec : {M : Type 1} → statement M
+drop_child_spec =
     tie.close
     (tie.spec
     of-pair-requires
