@@ -8,41 +8,41 @@ use Rattle.text.proofs.Puts.{within_none, row_more}
 use Rattle.text.proofs.put_hex.Statement.{statement}
 use Rattle.text.proofs.put_hex.Tie as tie
 
-abbrev invariant-loop : tie.invariant-loop
+abbrev invariant-loop : tie.invariant-loop-i
 invariant-loop out₀ at s n next₀ i₀ out next i = (i ≤ n) × WroteWithin (2 * i) out₀ out at next (each i (λ k. hex_byte (get_or s k 0)))
 
-abbrev decreases-loop : tie.decreases-loop
+abbrev decreases-loop : tie.decreases-loop-i
 decreases-loop out₀ at s n next₀ i₀ out next i = n - i
 
-loop-holds : tie.Need-loop-init invariant-loop decreases-loop
+loop-holds : tie.Need-loop-i-init invariant-loop decreases-loop
 unfolding row
 loop-holds c = (omega arith, within_none _ _ _)
 
-shared-slice-read-put-hex-byte : tie.Need-shared-slice-read-put-hex-byte invariant-loop decreases-loop
+shared-slice-read-put-hex-byte : tie.Need-bounds-s-i invariant-loop decreases-loop
 shared-slice-read-put-hex-byte c = omega arith
 
-put-hex-byte-requires : tie.Need-put-hex-byte-requires invariant-loop decreases-loop
+put-hex-byte-requires : tie.Need-put_hex_byte-next-requires invariant-loop decreases-loop
 put-hex-byte-requires c κs = omega arith
 
-add-i : tie.Need-overflow-add-i invariant-loop decreases-loop
+add-i : tie.Need-overflow_add-i invariant-loop decreases-loop
 add-i c = omega arith
 
-loop-less : tie.Need-loop-smaller invariant-loop decreases-loop
+loop-less : tie.Need-loop-i-smaller invariant-loop decreases-loop
 loop-less c = omega arith
 
-loop-again : tie.Need-loop-preserved invariant-loop decreases-loop
+loop-again : tie.Need-loop-i-preserved invariant-loop decreases-loop
 unfolding hex_byte
-loop-again c = (omega arith, row_more _ _ c.before.before.before.before.before.before.loop.invariant.1 c.before.before.put-hex-byte.ensures)
+loop-again c = (omega arith, row_more _ _ c.before.before.before.before.before.before.loop-i.invariant.1 c.before.before.put_hex_byte-next.ensures)
 
-same_length : tie.Need-same-length invariant-loop decreases-loop
+same_length : tie.Need-shape_of-out invariant-loop decreases-loop
 same_length c = omega arith
 
 returns : tie.Need-returns invariant-loop decreases-loop
 unfolding hex
-returns c = let n : c.before.loop.i ≡ length c.before.before.before.before.args.s.now = omega arith in rw (← n) c.before.loop.invariant.1
+returns c = let n : c.before.loop-i.i ≡ length c.before.before.before.before.args.s.now = omega arith in rw (← n) c.before.loop-i.invariant.1
 
-pub put-hex-spec : {M : Type 1} → statement M
-put-hex-spec =
+pub put_hex_spec : {M : Type 1} → statement M
+put_hex_spec =
     tie.close
     (tie.spec
     invariant-loop

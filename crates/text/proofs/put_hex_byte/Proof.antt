@@ -9,33 +9,33 @@ use borrow.Author.Rules.{rules}
 use Rattle.text.proofs.put_hex_byte.Statement.{statement}
 use Rattle.text.proofs.put_hex_byte.Tie as tie
 
-hex-digit-requires : tie.Need-hex-digit-requires
+hex-digit-requires : tie.Need-hex_digit-requires
 hex-digit-requires c κs = omega arith
 
-slice-write-out : tie.Need-slice-write-out
+slice-write-out : tie.Need-bounds-out-at
 slice-write-out c = omega arith
 
-hex-digit-requires-2 : tie.Need-hex-digit-requires-2
+hex-digit-requires-2 : tie.Need-hex_digit-requires-2
 hex-digit-requires-2 c κs = omega arith
 
-add-out : tie.Need-overflow-add-out
+add-out : tie.Need-overflow_add-out
 add-out c = omega arith
 
-slice-write-out-2 : tie.Need-slice-write-out-2
+slice-write-out-2 : tie.Need-bounds-out-at-2
 slice-write-out-2 c = simp length-set (omega (arith, c.before.before.before.requires))
 
-add-result : tie.Need-overflow-add-result
+add-result : tie.Need-overflow_add-result
 add-result c = omega arith
 
-same_length : tie.Need-same-length
+same_length : tie.Need-shape_of-out
 same_length c = search rules
 
 returns : tie.Need-returns
 unfolding splice hex_byte
-returns c = within_of (record { next = refl; bytes = rw (c.before.hex-digit.ensures, c.hex-digit2.ensures, add-one) refl }) (omega arith)
+returns c = within_of (record { next = refl; bytes = rw (c.before.hex_digit.ensures, c.hex_digit-2.ensures, add-one) refl }) (omega arith)
 
-pub put-hex-byte-spec : {M : Type 1} → statement M
-put-hex-byte-spec =
+pub put_hex_byte_spec : {M : Type 1} → statement M
+put_hex_byte_spec =
     tie.close
     (tie.spec
     hex-digit-requires
