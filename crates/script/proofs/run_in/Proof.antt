@@ -15,80 +15,80 @@ use Rattle.script.proofs.run_in.Statement.{statement}
 use Rattle.script.proofs.run_in.Tie as tie
 use Rattle.net.proofs.Forms.{seen, view-bytes}
 
-abbrev invariant-loop : tie.invariant-loop
+abbrev invariant-loop : tie.invariant-loop-i
 invariant-loop net₀ m script n tally₀ i₀ net tally i =
     let R = after (view net₀) script i in
     (i ≤ n) × (net ≡ bytes_like net₀ R.net) × (tally ≡ R.tally) × (length net ≡ length net₀)
 
-abbrev decreases-loop : tie.decreases-loop
+abbrev decreases-loop : tie.decreases-loop-i
 decreases-loop net₀ m script n tally₀ i₀ net tally i = n - i
 
 -- the places, seen from those after them
-abbrev start : tie.At-loop invariant-loop decreases-loop → tie.Start invariant-loop decreases-loop
+abbrev start : tie.At-loop-i invariant-loop decreases-loop → tie.Start invariant-loop decreases-loop
 start c = c.before.before.before.before
 
-abbrev turn : tie.After-shared-slice-known5 invariant-loop decreases-loop → tie.At-loop invariant-loop decreases-loop
+abbrev turn : tie.After-shared_slice_known-in-loop-i-4-1 invariant-loop decreases-loop → tie.At-loop-i invariant-loop decreases-loop
 turn c = let arg = c.before.before.before.before in arg.before.before
 
 -- the net and the script that are lent
-abbrev net₀ : tie.At-loop invariant-loop decreases-loop → List ℕ
+abbrev net₀ : tie.At-loop-i invariant-loop decreases-loop → List ℕ
 net₀ c = (start c).args.net.now
 
-abbrev script : tie.At-loop invariant-loop decreases-loop → List ℕ
+abbrev script : tie.At-loop-i invariant-loop decreases-loop → List ℕ
 script c = (start c).args.script.now
 
-shape : (c : tie.At-loop invariant-loop decreases-loop) → Shaped (view (net₀ c))
+shape : (c : tie.At-loop-i invariant-loop decreases-loop) → Shaped (view (net₀ c))
 shape c = seen _ _ (start c).requires.0.shape
 
-no-tally-requires : tie.Need-no-tally-requires invariant-loop decreases-loop
+no-tally-requires : tie.Need-no_tally-tally-requires invariant-loop decreases-loop
 no-tally-requires c κs = search rules
 
-loop-holds : tie.Need-loop-init invariant-loop decreases-loop
+loop-holds : tie.Need-loop-i-init invariant-loop decreases-loop
 unfolding after
-loop-holds c = (omega arith, sym (view-bytes _ _ c.before.before.before.requires.0.shape), c.no-tally.ensures, refl)
+loop-holds c = (omega arith, sym (view-bytes _ _ c.before.before.before.requires.0.shape), c.no_tally-tally.ensures, refl)
 
-mul-step-in : tie.Need-overflow-mul-step-in invariant-loop decreases-loop
+mul-step-in : tie.Need-overflow_mul-i invariant-loop decreases-loop
 mul-step-in c = omega arith
 
-shared-slice-read-step-in : tie.Need-shared-slice-read-step-in invariant-loop decreases-loop
+shared-slice-read-step-in : tie.Need-bounds-script-i invariant-loop decreases-loop
 shared-slice-read-step-in c = omega arith
 
-mul-step-in-2 : tie.Need-overflow-mul-step-in-2 invariant-loop decreases-loop
+mul-step-in-2 : tie.Need-overflow_mul-i-in-loop-i invariant-loop decreases-loop
 mul-step-in-2 c = omega arith
 
-add-step-in : tie.Need-overflow-add-step-in invariant-loop decreases-loop
+add-step-in : tie.Need-overflow_add-i invariant-loop decreases-loop
 add-step-in c = omega arith
 
-shared-slice-read-step-in-2 : tie.Need-shared-slice-read-step-in-2 invariant-loop decreases-loop
+shared-slice-read-step-in-2 : tie.Need-bounds-script-i-in-loop-i invariant-loop decreases-loop
 shared-slice-read-step-in-2 c = omega arith
 
-mul-step-in-3 : tie.Need-overflow-mul-step-in-3 invariant-loop decreases-loop
+mul-step-in-3 : tie.Need-overflow_mul-i-in-loop-i-2 invariant-loop decreases-loop
 mul-step-in-3 c = omega arith
 
-add-step-in-2 : tie.Need-overflow-add-step-in-2 invariant-loop decreases-loop
+add-step-in-2 : tie.Need-overflow_add-i-in-loop-i invariant-loop decreases-loop
 add-step-in-2 c = omega arith
 
-shared-slice-read-step-in-3 : tie.Need-shared-slice-read-step-in-3 invariant-loop decreases-loop
+shared-slice-read-step-in-3 : tie.Need-bounds-script-i-in-loop-i-2 invariant-loop decreases-loop
 shared-slice-read-step-in-3 c = omega arith
 
-mul-step-in-4 : tie.Need-overflow-mul-step-in-4 invariant-loop decreases-loop
+mul-step-in-4 : tie.Need-overflow_mul-i-in-loop-i-3 invariant-loop decreases-loop
 mul-step-in-4 c = omega arith
 
-add-step-in-3 : tie.Need-overflow-add-step-in-3 invariant-loop decreases-loop
+add-step-in-3 : tie.Need-overflow_add-i-in-loop-i-2 invariant-loop decreases-loop
 add-step-in-3 c = omega arith
 
-shared-slice-read-step-in-4 : tie.Need-shared-slice-read-step-in-4 invariant-loop decreases-loop
+shared-slice-read-step-in-4 : tie.Need-bounds-script-i-in-loop-i-3 invariant-loop decreases-loop
 shared-slice-read-step-in-4 c = omega arith
 
-step-in-requires : tie.Need-step-in-requires invariant-loop decreases-loop
+step-in-requires : tie.Need-step_in-d-requires invariant-loop decreases-loop
 step-in-requires c κs = let t = turn c in
-    let w = after-is-net _ _ (shape t) (script t) t.loop.i _ t.loop.inv.1 in
-    (w.0, (start t).pre.1.0 ∙ sym w.2)
+    let w = after-is-net _ _ (shape t) (script t) t.loop-i.i _ t.loop-i.invariant.1 in
+    (w.0, (start t).requires.1.0 ∙ sym w.2)
 
-counted-requires : tie.Need-counted-requires invariant-loop decreases-loop
+counted-requires : tie.Need-counted-tally-requires invariant-loop decreases-loop
 counted-requires c κs =
     let t = turn c.before.before.before in
-    let f = subst (CountsUpTo t.loop.i) (sym t.loop.inv.2) (few (view (net₀ t)) (script t) t.loop.i) in
+    let f = subst (CountsUpTo t.loop-i.i) (sym t.loop-i.invariant.2) (few (view (net₀ t)) (script t) t.loop-i.i) in
     record {
       accepted = omega (arith, f.accepted);
       refused = omega (arith, f.refused);
@@ -98,34 +98,34 @@ counted-requires c κs =
       replies = λ x. omega (arith, f.replies x);
     }
 
-add-i : tie.Need-overflow-add-i invariant-loop decreases-loop
+add-i : tie.Need-overflow_add-i-in-loop-i-3 invariant-loop decreases-loop
 add-i c = omega arith
 
-loop-less : tie.Need-loop-smaller invariant-loop decreases-loop
+loop-less : tie.Need-loop-i-smaller invariant-loop decreases-loop
 loop-less c = omega arith
 
-loop-again : tie.Need-loop-preserved invariant-loop decreases-loop
+loop-again : tie.Need-loop-i-preserved invariant-loop decreases-loop
 loop-again c =
     let stepped = c.before.before.before in
     let t = turn stepped.before in
-    let l = t.loop in
-    let did = stepped.step_in.ensures in
-    let net = turn-net _ _ (shape t) (script t) l.i l.net _ _ l.inv.1 did in
-    let tally = turn-tally _ _ (shape t) (script t) l.i l.net _ _ l.inv.1 did l.tally _ l.inv.2 c.counted.ensures in
+    let l = t.loop-i in
+    let did = stepped.step_in-d.ensures in
+    let net = turn-net _ _ (shape t) (script t) l.i l.net _ _ l.invariant.1 did in
+    let tally = turn-tally _ _ (shape t) (script t) l.i l.net _ _ l.invariant.1 did l.tally _ l.invariant.2 c.counted-tally.ensures in
     (omega arith, net, tally, omega arith)
 
-same_length : tie.Need-same-length invariant-loop decreases-loop
+same_length : tie.Need-shape_of-net invariant-loop decreases-loop
 same_length c = omega arith
 
 returns : tie.Need-returns invariant-loop decreases-loop
 returns c =
     let t = c.before in
-    let all : t.loop.i ≡ length (script t) / 4 = omega arith in
+    let all : t.loop-i.i ≡ length (script t) / 4 = omega arith in
     let at = after (view (net₀ t)) (script t) in
-    (t.loop.invariant.2 ∙ ap (λ (k : ℕ). (at k).tally) all, t.loop.invariant.1 ∙ ap (λ (k : ℕ). bytes_like (net₀ t) (at k).net) all)
+    (t.loop-i.invariant.2 ∙ ap (λ (k : ℕ). (at k).tally) all, t.loop-i.invariant.1 ∙ ap (λ (k : ℕ). bytes_like (net₀ t) (at k).net) all)
 
-pub run-in-spec : {M : Type 1} → statement M
-run-in-spec =
+pub run_in_spec : {M : Type 1} → statement M
+run_in_spec =
     tie.close
     (tie.spec
     invariant-loop
