@@ -17,90 +17,90 @@ use Rattle.call.proofs.call_in.Statement.{statement}
 use Rattle.call.proofs.call_in.Tie as tie
 
 -- where the station is on the tree, from the visit back
-abbrev root-place : tie.After-visit-station → tie.After-root-of
+abbrev root-place : tie.After-visit_station-end → tie.After-root_of-root
 root-place y = y.before.before.before
 
-abbrev fill-place : tie.After-visit-station → tie.After-fill
+abbrev fill-place : tie.After-visit_station-end → tie.After-fill
 fill-place y = (root-place y).before.before.before
 
-abbrev on-place : tie.After-visit-station → tie.Then1
+abbrev on-place : tie.After-visit_station-end → tie.Then-on_tree
 on-place y = (fill-place y).before.before
 
-abbrev start : tie.Then1 → tie.Start
+abbrev start : tie.Then-on_tree → tie.Start
 start x = x.before.before.before.before
 
-on : (x : tie.Then1) → on_tree (tree_of (view (start x).args.net.now) (start x).args.g) (start x).args.c ≡ true
-on x = sym x.before.on-tree.ensures ∙ x.if1.true
+on : (x : tie.Then-on_tree) → on_tree (tree_of (view (start x).args.net.now) (start x).args.g) (start x).args.c ≡ true
+on x = sym x.before.on_tree.ensures ∙ x.if-on_tree.true
 
-clean : (x : tie.After-fill) → x.fill.new.0 ≡ replicate list_length nil
+clean : (x : tie.After-fill) → x.fill.new.s ≡ replicate list_length nil
 clean x = x.fill.ensures ∙ ap (λ (k : ℕ). replicate k nil) (start x.before.before).requires.1.2
 
 -- who is reached, how many, and in how many copies
-abbrev t : tie.After-visit-station → Tree
+abbrev t : tie.After-visit_station-end → Tree
 t y = let a = (start (on-place y)).args in tree_of (view a.net.now) a.g
 
-all : (y : tie.After-visit-station) → y.visit-station.result ≡ 3 * length (reach (t y))
+all : (y : tie.After-visit_station-end) → y.visit_station-end.result ≡ 3 * length (reach (t y))
 all y = let s = start (on-place y) in
-    all-reached s.args.net.now s.pre.0 s.args.g s.pre.1.0 _ _ (root-place y).root-of.ensures.0 y.before.before.stations.ensures
-    _ _ _ (clean (fill-place y)) y.visit-station.ensures
+    all-reached s.args.net.now s.requires.0 s.args.g s.requires.1.0 _ _ (root-place y).root_of-root.ensures.0 y.before.before.stations-n.ensures
+    _ _ _ (clean (fill-place y)) y.visit_station-end.ensures
 
-listed : (y : tie.After-visit-station) → let a = (start (on-place y)).args in
-    y.visit-station.new.1.1.1.1.1.0 ≡ reach_bytes (reach_list (view a.net.now) a.g)
+listed : (y : tie.After-visit_station-end) → let a = (start (on-place y)).args in
+    y.visit_station-end.new.out ≡ reach_bytes (reach_list (view a.net.now) a.g)
 listed y = let s = start (on-place y) in
-    all_listed s.args.net.now s.pre.0 s.args.g s.pre.1.0 _ _ (root-place y).root-of.ensures.0 y.before.before.stations.ensures
-    _ _ _ (clean (fill-place y)) y.visit-station.ensures
+    all_listed s.args.net.now s.requires.0 s.args.g s.requires.1.0 _ _ (root-place y).root_of-root.ensures.0 y.before.before.stations-n.ensures
+    _ _ _ (clean (fill-place y)) y.visit_station-end.ensures
 
-at_most : (y : tie.After-visit-station) → length (reach (t y)) ≤ most_stations
-at_most y = let s = start (on-place y) in few s.args.net.now s.pre.0 s.args.g s.pre.1.0
+at_most : (y : tie.After-visit_station-end) → length (reach (t y)) ≤ most_stations
+at_most y = let s = start (on-place y) in few s.args.net.now s.requires.0 s.args.g s.requires.1.0
 
-one_more : (y : tie.After-visit-station) → suc (length (spread (t y) (start (on-place y)).args.c)) ≡ length (reach (t y))
-one_more y = let s = start (on-place y) in copies s.args.net.now s.pre.0 s.args.g s.args.c s.pre.1.0 (on (on-place y))
+one_more : (y : tie.After-visit_station-end) → suc (length (spread (t y) (start (on-place y)).args.c)) ≡ length (reach (t y))
+one_more y = let s = start (on-place y) in copies s.args.net.now s.requires.0 s.args.g s.args.c s.requires.1.0 (on (on-place y))
 
-on-tree-requires : tie.Need-on-tree-requires
+on-tree-requires : tie.Need-on_tree-requires
 on-tree-requires c κs = search rules
 
 fill-requires : tie.Need-fill-requires
 fill-requires c κs = search rules
 
-root-of-requires : tie.Need-root-of-requires
+root-of-requires : tie.Need-root_of-root-requires
 root-of-requires c κs = search rules
 
-stations-requires : tie.Need-stations-requires
+stations-requires : tie.Need-stations-n-requires
 stations-requires c κs = search rules
 
-visit-station-requires : tie.Need-visit-station-requires
+visit-station-requires : tie.Need-visit_station-end-requires
 visit-station-requires c κs = let r = c.before.before in
     let f = r.before.before.before in
     let s = start f.before.before in
-    root-fit s.args.net.now s.pre.0 s.args.g s.pre.1.0 _ _ r.root-of.ensures.0 c.before.stations.ensures _
+    root-fit s.args.net.now s.requires.0 s.args.g s.requires.1.0 _ _ r.root_of-root.ensures.0 c.before.stations-n.ensures _
     (ap length (clean f) ∙ length-replicate {A = ℕ} list_length nil)
 
-cast-reached : tie.Need-overflow-cast-reached
+cast-reached : tie.Need-overflow_cast-reached
 cast-reached c = omega (arith, all c.before.before, at_most c.before.before)
 
-sub-t17 : tie.Need-overflow-sub-t17
+sub-t17 : tie.Need-overflow_sub-result
 sub-t17 c = omega (arith, all c.before.before, one_more c.before.before)
 
-same_length : tie.Need-same-length
+same_length : tie.Need-shape_of-out
 same_length c = search rules
 
-returns : tie.Need-returns
+returns : tie.Need-returns-then-on_tree
 returns c = let y = c.before.before in
     let x = on-place y in
     let s = start x in
     let a = s.args in
-    let r : y.visit-station.result / 3 ≡ length (reach (t y)) = omega (arith, all y) in
-    ends-0 a.net.now a.g a.c a.out.now s.pre.1.3 (both-in (view a.net.now) a.g a.c s.pre.1.0 s.pre.1.1)
-    s.pre.1.2 _ _ _ (on x) r (omega (arith, all y, one_more y)) (one_more y) (listed y)
+    let r : y.visit_station-end.result / 3 ≡ length (reach (t y)) = omega (arith, all y) in
+    ends-0 a.net.now a.g a.c a.out.now s.requires.1.3 (both-in (view a.net.now) a.g a.c s.requires.1.0 s.requires.1.1)
+    s.requires.1.2 _ _ _ (on x) r (omega (arith, all y, one_more y)) (one_more y) (listed y)
 
-returns-2 : tie.Need-returns-2
+returns-2 : tie.Need-returns-else-on_tree
 returns-2 c = let s = c.before.before.before.before in
     let a = s.args in
     ends-8 a.net.now a.g a.c a.out.now s.requires.1.3 (both-in (view a.net.now) a.g a.c s.requires.1.0 s.requires.1.1)
-    s.requires.1.2 (sym c.before.on-tree.ensures ∙ c.if1.false)
+    s.requires.1.2 (sym c.before.on_tree.ensures ∙ c.if-on_tree.false)
 
-pub call-in-spec : {M : Type 1} → statement M
-call-in-spec =
+pub call_in_spec : {M : Type 1} → statement M
+call_in_spec =
     tie.close
     (tie.spec
     on-tree-requires

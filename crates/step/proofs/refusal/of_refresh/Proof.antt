@@ -23,40 +23,40 @@ abbrev R : tie.Start → Rule Net
 R s = rule.refresh (N s) s.args.g s.args.p s.args.c
 
 -- the operands are in range
-operands : (x : tie.Else1) → (R x.before.before.before).operands ≡ true
+operands : (x : tie.Else-not-of_station) → (R x.before.before.before).operands ≡ true
 unfolding rule.refresh
-operands x = sym x.before.of-station.ensures.0 ∙ not-false _ x.if1.false
+operands x = sym x.before.of_station.ensures.0 ∙ not-false _ x.if-not-of_station.false-raw
 
-in-range : (x : tie.Else1) → let s = x.before.before.before in (s.args.g < (N s).groups) × (s.args.p < (N s).stations)
-in-range x = x.before.of-station.ensures.1 (not-false _ x.if1.false)
+in-range : (x : tie.Else-not-of_station) → let s = x.before.before.before in (s.args.g < (N s).groups) × (s.args.p < (N s).stations)
+in-range x = x.before.of_station.ensures.1 (not-false _ x.if-not-of_station.false-raw)
 
 -- the rule's test is the code's
-may : (y : tie.After-may-refresh) → y.may-refresh.result ≡ (R y.before.before.before.before.before).enabled
+may : (y : tie.After-may_refresh) → y.may_refresh.result ≡ (R y.before.before.before.before.before).enabled
 unfolding rule.refresh
-may y = y.may-refresh.ensures ∙ ap (λ (e : Entry). not (eqb e.parent nil) && not (has e.waiting e.parent)) y.before.entry-as.ensures
+may y = y.may_refresh.ensures ∙ ap (λ (e : Entry). not (eqb e.parent nil) && not (has e.waiting e.parent)) y.before.entry_as.ensures
 
-of-station-requires : tie.Need-of-station-requires
+of-station-requires : tie.Need-of_station-requires
 of-station-requires c κs = search rules
 
-returns : tie.Need-returns
+returns : tie.Need-returns-then-not-of_station
 unfolding rule.refresh
-returns c = is-3 _ (sym c.before.of-station.ensures.0 ∙ not-true _ c.if1.true)
+returns c = is-3 _ (sym c.before.of_station.ensures.0 ∙ not-true _ c.if-not-of_station.true-raw)
 
-entry-as-requires : tie.Need-entry-as-requires
+entry-as-requires : tie.Need-entry_as-requires
 entry-as-requires c κs = let s = c.before.before.before in (s.requires.0, (s.requires.1.0, (in-range c).0, (in-range c).1))
 
-may-refresh-requires : tie.Need-may-refresh-requires
-may-refresh-requires c κs = let s = c.before.before.before.before in rw c.entry-as.ensures (parent-small (N s) (seen _ _ s.requires.0.shape) s.args.g s.args.p)
+may-refresh-requires : tie.Need-may_refresh-requires
+may-refresh-requires c κs = let s = c.before.before.before.before in rw c.entry_as.ensures (parent-small (N s) (seen _ _ s.requires.0.shape) s.args.g s.args.p)
 
-returns-2 : tie.Need-returns-2
+returns-2 : tie.Need-returns-then-may_refresh
 unfolding rule.refresh
 returns-2 c = let y = c.before in
     let x = y.before.before in
-    is-6 _ (operands x) (sym (may y) ∙ c.if2.true) refl x.before.before.before.requires.1.1
+    is-6 _ (operands x) (sym (may y) ∙ c.if-may_refresh.true) refl x.before.before.before.requires.1.1
 
-returns-3 : tie.Need-returns-3
+returns-3 : tie.Need-returns
 unfolding rule.refresh
-returns-3 c = let y = c.before in is-4 _ (operands y.before.before) (sym (may y) ∙ c.if2.false)
+returns-3 c = let y = c.before in is-4 _ (operands y.before.before) (sym (may y) ∙ c.if-may_refresh.false)
 
-pub of-refresh-spec : {M : Type 1} → statement M
-of-refresh-spec = tie.close (tie.spec of-station-requires returns entry-as-requires may-refresh-requires returns-2 returns-3)
+pub of_refresh_spec : {M : Type 1} → statement M
+of_refresh_spec = tie.close (tie.spec of-station-requires returns entry-as-requires may-refresh-requires returns-2 returns-3)
