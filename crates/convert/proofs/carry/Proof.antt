@@ -14,18 +14,18 @@ use Rattle.convert.proofs.carry.Tie as tie
 put-requires : tie.Need-put-requires
 put-requires c κs = search rules
 
-mark-byte-requires : tie.Need-mark-byte-requires
+mark-byte-requires : tie.Need-mark_byte-requires
 mark-byte-requires c κs = search rules
 
-slice-write-out : tie.Need-slice-write-out
+slice-write-out : tie.Need-bounds-out-7
 slice-write-out c = search rules
 
-carry-entries-requires : tie.Need-carry-entries-requires
-carry-entries-requires c κs = simp length-set (omega (arith, c.before.before.before.before.put.auto.0))
+carry-entries-requires : tie.Need-carry_entries-requires
+carry-entries-requires c κs = simp length-set (omega (arith, c.before.before.before.before.put.auto.out))
 
-same_length : tie.Need-same-length
+same_length : tie.Need-shape_of-out
 same_length c = let e = c.before.before in
-    omega (arith, simp length-set at e.carry-entries.auto.1.1.0, e.before.before.before.before.before.put.auto.0)
+    omega (arith, simp length-set at e.carry_entries.auto.out, e.before.before.before.before.before.put.auto.out)
 
 returns : tie.Need-returns
 unfolding carried remarked splice
@@ -35,10 +35,10 @@ returns c = let e = c.before.before in
     let s = w.before.before.before.before in
     let a = s.args in
     let whole = w.put.ensures.bytes ∙ splice-whole a.out.now a.net.now (omega (arith, s.requires.0, s.requires.1)) in
-    e.carry-entries.ensures ∙ (λ i. in_rows (entry_carried a.net.now a.m a.n) (splice (whole i) 7 (b.mark-byte.ensures i ∷ [])) most_groups most_stations)
+    e.carry_entries.ensures ∙ (λ i. in_rows (entry_carried a.net.now a.m a.n) (splice (whole i) 7 (b.mark_byte.ensures i ∷ [])) most_groups most_stations)
 
-pub carry-spec : {M : Type 1} → statement M
-carry-spec =
+pub carry_spec : {M : Type 1} → statement M
+carry_spec =
     tie.close
     (tie.spec
     put-requires

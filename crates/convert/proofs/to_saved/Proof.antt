@@ -5,11 +5,11 @@ use Rattle.convert.proofs.to_saved.Tie as tie
 convert-requires : tie.Need-convert-requires
 convert-requires c κs = search rules
 
-same_length : tie.Need-same-length
+same_length : tie.Need-shape_of-net
 same_length c = search rules
 
 returns : tie.Need-returns
 returns c = c.before.before.convert.ensures
 
-pub to-saved-spec : {M : Type 1} → statement M
-to-saved-spec = tie.close (tie.spec convert-requires same_length returns)
+pub to_saved_spec : {M : Type 1} → statement M
+to_saved_spec = tie.close (tie.spec convert-requires same_length returns)
