@@ -31,7 +31,7 @@ put32-requires-8 c κs = search rules
 put32-requires-9 : tie.Need-put32-requires-9
 put32-requires-9 c κs = search rules
 
-same_length : tie.Need-same-length
+same_length : tie.Need-shape_of-out
 same_length c = search rules
 
 returns : tie.Need-returns
@@ -49,14 +49,14 @@ returns c =
     let start = accepted.before.before.before in
     nine-counts _ _ _ _ _ _ _ _ _ _ start.args.t start.requires
     accepted.put32.ensures
-    refused.put322.ensures
-    sent.put323.ensures
-    delivered.put324.ensures
-    lost.put325.ensures
-    adopted.put326.ensures
-    other.put327.ensures
-    unconnected.put328.ensures
-    late.put329.ensures
+    refused.put32-2.ensures
+    sent.put32-3.ensures
+    delivered.put32-4.ensures
+    lost.put32-5.ensures
+    adopted.put32-6.ensures
+    other.put32-7.ensures
+    unconnected.put32-8.ensures
+    late.put32-9.ensures
 
 pub put_spec : {M : Type 1} → statement M
 put_spec =
