@@ -5,14 +5,14 @@ use Rattle.rig.proofs.kep_fresh.Tie as tie
 fresh-requires : tie.Need-fresh-requires
 fresh-requires c κs = search rules
 
-cast-result : tie.Need-overflow-cast-result
+cast-result : tie.Need-overflow_cast-result
 cast-result c = search rules
 
-same_length : tie.Need-same-length
+same_length : tie.Need-shape_of-net
 same_length c = search rules
 
 returns : tie.Need-returns
 returns c = c.before.before.fresh.ensures
 
-pub kep-fresh-spec : {M : Type 1} → statement M
-kep-fresh-spec = tie.close (tie.spec fresh-requires cast-result same_length returns)
+pub kep_fresh_spec : {M : Type 1} → statement M
+kep_fresh_spec = tie.close (tie.spec fresh-requires cast-result same_length returns)

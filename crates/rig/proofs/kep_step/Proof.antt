@@ -7,16 +7,16 @@ use Rattle.rig.proofs.kep_step.Tie as tie
 step-requires : tie.Need-step-requires
 step-requires c κs = search rules
 
-step-word-requires : tie.Need-step-word-requires
+step-word-requires : tie.Need-step_word-requires
 step-word-requires c κs = search rules
 
-same_length : tie.Need-same-length
+same_length : tie.Need-shape_of-net
 same_length c = search rules
 
 returns : tie.Need-returns
 returns c =
     let stepped = c.before.before.before.step.ensures in
-    (c.step-word.ensures ∙ ap step_word stepped.0, stepped.1)
+    (c.step_word.ensures ∙ ap step_word stepped.0, stepped.1)
 
-pub kep-step-spec : {M : Type 1} → statement M
-kep-step-spec = tie.close (tie.spec step-requires step-word-requires same_length returns)
+pub kep_step_spec : {M : Type 1} → statement M
+kep_step_spec = tie.close (tie.spec step-requires step-word-requires same_length returns)
