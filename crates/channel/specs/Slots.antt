@@ -1,5 +1,5 @@
 -- A channel's bytes: a count, then so many slots of w bytes, oldest first, unused slots zero. Over any capacity and width.
-use Rattle.std.specs.Prelude.{List, [], ◌∷◌, ◌++◌, map, ℕ, zero, suc, ◌+◌, ◌*◌, ◌-◌, length, take, drop, get_or, replicate}
+use Rattle.std.specs.Prelude.{List, [], ◌∷◌, ◌++◌, map, ℕ, zero, suc, ◌*◌, ◌-◌, length, take, drop, get_or, replicate}
 
 -- the first n slots of w bytes
 unfoldable pub slots : ℕ → ℕ → List ℕ → List (List ℕ)
