@@ -1,5 +1,4 @@
 -- The laws of lent records.
-pub mod Walks
 pub mod Tallies
 pub mod Filled
 pub mod Fillings
