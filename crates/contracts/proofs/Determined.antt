@@ -1,11 +1,8 @@
 -- Each public contract determines its result and everything lent, on all inputs. Above a theorem stands its function. The theorem's
--- variables are the function's parameters, and what it speaks of is the function's `ensures`, word for word: p is `now p.entry`,
--- and p' is `now p.exit`. tests/contracts compares the texts.
-use mathlib.Core.Path.{◌≡◌, sym, ◌∙◌}
-use mathlib.Core.Bool.{true}
-use mathlib.Core.List.{List}
-use Prim.Native.Nat.{ℕ, ◌≤◌}
-use lib.ListN.{length}
+-- variables are the function's parameters, and what it speaks of is the function's `ensures`, word for word: r is `result`, p is `p.now`
+-- or `p.old`, and p' is `p.new`. tests/contracts compares the texts, and the modules of the words.
+use Rattle.std.specs.Prelude.{◌≡◌, true, List, ℕ, ◌≤◌, length}
+use mathlib.Core.Path.{sym, ◌∙◌}
 use Rattle.bits.specs.Parts.{Wrote}
 use Rattle.tree.specs.declared.Reach.{Reach}
 use Rattle.protocol.specs.declared.Tally.{Tally}
