@@ -1,4 +1,4 @@
-use Rattle.std.proofs.Common.{◌≡◌, ℕ, Bool, true, ◌+◌, refl, sym, ap, ◌∙◌, add-zero}
+use Rattle.std.proofs.Common.{◌≡◌, ℕ, true, ◌+◌, refl, sym, ap, ◌∙◌, add-zero}
 use Rattle.protocol.specs.declared.Replies.{Replies}
 use Rattle.protocol.specs.declared.Tally.{Tally}
 use Rattle.protocol.specs.Cases.{case_number, no_case}

@@ -1,6 +1,6 @@
 use Rattle.std.proofs.Common.{arith}
 use Rattle.bits.proofs.Parts.{wrote_then}
-use Rattle.text.proofs.Digits.{one-digit, more-digits, fewer}
+use Rattle.text.proofs.Digits.{one-digit, more-digits}
 use Rattle.text.proofs.Puts.{within_of}
 use Rattle.text.proofs.+put_digits.Goals as goal
 

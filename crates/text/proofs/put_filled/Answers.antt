@@ -12,8 +12,8 @@ loop-i-preserved c =
     let e = sym c.is_gap.ensures in (
       omega arith,
       elim c.if-is_gap.branch [
-        then-is_gap w ↦ rw (w.out-is, w.next-is, w.k-is) (filling-number _ _ F (omega arith) (e ∙ w.if-is_gap.true) w.put_in_gap-next.ensures)
-      | else-is_gap w ↦ rw (w.out-is, w.next-is, w.k-is) (filling-byte _ _ F (omega arith) (e ∙ w.if-is_gap.false) w.put_byte-next.ensures)
+        | then-is_gap w ↦ rw (w.out-is, w.next-is, w.k-is) (filling-number _ _ F (omega arith) (e ∙ w.if-is_gap.true) w.put_in_gap-next.ensures)
+        | else-is_gap w ↦ rw (w.out-is, w.next-is, w.k-is) (filling-byte _ _ F (omega arith) (e ∙ w.if-is_gap.false) w.put_byte-next.ensures)
       ],
     )
 

@@ -1,8 +1,6 @@
-use Rattle.std.proofs.Common.{◌≡◌, ◌+◌, ◌≤◌, ◌<◌, true, false, [], ◌∷◌, sym, ap, ◌∙◌, arith}
+use Rattle.std.proofs.Common.{◌+◌, ◌≤◌, ◌<◌, [], ◌∷◌, sym, ap, ◌∙◌, arith}
 use Rattle.bits.specs.Parts.{splice}
-use Rattle.tree.specs.Tree.{agreed}
 use Rattle.protocol.specs.declared.Entry.{Entry}
-use Rattle.protocol.specs.Calls.{tree_of}
 use Rattle.net.specs.View.{view}
 use Rattle.visit.specs.Lists.{list_length}
 use Rattle.visit.proofs.Visits.{none-wrote, end-wrote, take-fit, rest-fit, both-wrote, skip-fit, skip-wrote, line-room, line-fit, line_wrote}

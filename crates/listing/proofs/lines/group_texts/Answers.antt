@@ -1,5 +1,5 @@
 use Rattle.std.proofs.Common.{arith}
-use Rattle.text.specs.Text.{row, each}
+use Rattle.text.specs.Text.{row}
 use Rattle.text.proofs.Puts.{◌then◌, within_none, row_more, row-all}
 use Rattle.listing.specs.Lines.{group_text}
 use Rattle.listing.proofs.lines.group_texts.Goals as goal

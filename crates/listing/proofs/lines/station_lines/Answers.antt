@@ -1,5 +1,5 @@
 use Rattle.std.proofs.Common.{arith}
-use Rattle.text.specs.Text.{row, each}
+use Rattle.text.specs.Text.{row}
 use Rattle.text.proofs.Puts.{within_none, row_more, row-all}
 use Rattle.listing.proofs.lines.station_lines.Goals as goal
 
