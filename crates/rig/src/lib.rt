@@ -1,4 +1,5 @@
-// The C face: every function of the model but the bench program, through numbers and byte buffers (rig/kepalumbi.h).
+// The C face: every function of the model but the bench program, through numbers and byte buffers (rig/kepalumbi.h). The crate `rig_c`
+// exports them to C.
 #![tactic(auto)]
 
 ghost use Rattle.std.specs.Prelude.{◌≡◌};
@@ -15,8 +16,7 @@ ghost use Rattle.rig.specs.Face.{step_word, found_word, called_word};
 
 use layout::form::Mark;
 
-#[unsafe(no_mangle)]
-pub extern "C" fn kep_fresh(plan: &[u8], net: &mut [u8]) -> u32
+pub fn kep_fresh(plan: &[u8], net: &mut [u8]) -> u32
     ensures { (result ≡ fresh_outcome plan.now net.old)
         × (net.new ≡ net_after_fresh plan.now net.old) }
 {
@@ -30,16 +30,14 @@ fn step_word(answer: step::Answer) -> u32
     (answer.outcome as u32) + 256 * (answer.case as u32)
 }
 
-#[unsafe(no_mangle)]
-pub extern "C" fn kep_step(net: &mut [u8], action: u8, a: u8, b: u8, c: u8) -> u32
+pub fn kep_step(net: &mut [u8], action: u8, a: u8, b: u8, c: u8) -> u32
     ensures { (result ≡ step_word (step_answer net.old action a b c))
         × (net.new ≡ net_after_step net.old action a b c) }
 {
     step_word(step::step(net, action, a, b, c))
 }
 
-#[unsafe(no_mangle)]
-pub extern "C" fn kep_run(net: &mut [u8], script: &[u8], tally: &mut [u8]) -> u32
+pub fn kep_run(net: &mut [u8], script: &[u8], tally: &mut [u8]) -> u32
     ensures { (result ≡ run_outcome net.old script.now (tally_fits tally.old))
         × (net.new ≡ net_after_run net.old script.now (tally_fits tally.old))
         × (tally.new ≡ tally_after_run net.old script.now tally.old) }
@@ -47,8 +45,7 @@ pub extern "C" fn kep_run(net: &mut [u8], script: &[u8], tally: &mut [u8]) -> u3
     run::run_into(net, script, tally) as u32
 }
 
-#[unsafe(no_mangle)]
-pub extern "C" fn kep_find(net: &[u8], name: &[u8]) -> u32
+pub fn kep_find(net: &[u8], name: &[u8]) -> u32
     ensures { result ≡ found_word (found_in net.now name.now) }
 {
     let found = find::find(net, name);
@@ -58,8 +55,7 @@ pub extern "C" fn kep_find(net: &[u8], name: &[u8]) -> u32
     }
 }
 
-#[unsafe(no_mangle)]
-pub extern "C" fn kep_call(net: &[u8], group: u8, station: u8, list: &mut [u8]) -> u32
+pub fn kep_call(net: &[u8], group: u8, station: u8, list: &mut [u8]) -> u32
     ensures { (result ≡ called_word (called_in net.now group station (list_fits list.old)))
         × (list.new ≡ list_after_call net.now group station list.old) }
 {
@@ -72,32 +68,28 @@ pub extern "C" fn kep_call(net: &[u8], group: u8, station: u8, list: &mut [u8]) 
 
 // ---- the working form
 
-#[unsafe(no_mangle)]
-pub extern "C" fn kep_to_working(net: &[u8], work: &mut [u8]) -> u32
+pub fn kep_to_working(net: &[u8], work: &mut [u8]) -> u32
     ensures { (result ≡ convert_outcome Saved net.now work.old)
         × (work.new ≡ after_convert Saved Working net.now work.old) }
 {
     convert::to_working(net, work) as u32
 }
 
-#[unsafe(no_mangle)]
-pub extern "C" fn kep_to_saved(work: &[u8], net: &mut [u8]) -> u32
+pub fn kep_to_saved(work: &[u8], net: &mut [u8]) -> u32
     ensures { (result ≡ convert_outcome Working work.now net.old)
         × (net.new ≡ after_convert Working Saved work.now net.old) }
 {
     convert::to_saved(work, net) as u32
 }
 
-#[unsafe(no_mangle)]
-pub extern "C" fn kep_working_step(work: &mut [u8], action: u8, a: u8, b: u8, c: u8) -> u32
+pub fn kep_working_step(work: &mut [u8], action: u8, a: u8, b: u8, c: u8) -> u32
     ensures { (result ≡ step_word (step_answer_as Working work.old action a b c))
         × (work.new ≡ net_after_step_as Working work.old action a b c) }
 {
     step_word(step::step_as(work, Mark::Working, action, a, b, c))
 }
 
-#[unsafe(no_mangle)]
-pub extern "C" fn kep_working_run(work: &mut [u8], script: &[u8], tally: &mut [u8]) -> u32
+pub fn kep_working_run(work: &mut [u8], script: &[u8], tally: &mut [u8]) -> u32
     ensures { (result ≡ run_outcome_as Working work.old script.now (tally_fits tally.old))
         × (work.new ≡ net_after_run_as Working work.old script.now (tally_fits tally.old))
         × (tally.new ≡ tally_after_run_as Working work.old script.now tally.old) }
