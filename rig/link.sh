@@ -9,12 +9,12 @@
 #     kep_run "$(kep_before)" OUT args..
 #
 # There are two roads. The machine's own: its C compiler links with the archive for this machine, and the program runs as it is. That
-# archive is made by rt on x86-64, and by rig/native-archive on aarch64. The kit's, where there is no C compiler, or nothing else: its clang
-# compiles for x86-64, its rattle-link links, and its loader and C library run the program, on another processor under its emulator. The
-# C headers of such a machine, if it has any, are not those of x86-64, so the few declarations needed stand in include/.
+# archive is made by rt on x86-64, and by rig/native-archive for aarch64. The kit's, on x86-64 where there is no C compiler: its clang
+# compiles, its rattle-link links, and its loader and C library run the program. Such a machine may have no C headers, so the few
+# declarations needed stand in include/.
 #
-# Where KEP_KIT_ONLY is set and not empty, the kit's road is taken in any case. Another machine's own road can be tried by naming the
-# machine, its compiler and its emulator, as for rig/build and rig/compare:
+# Where KEP_KIT_ONLY is set and not empty, the kit's road is taken in any case. Another machine's own road can be tried on x86-64, where
+# alone the kit runs, by naming the machine, its compiler and its emulator, as for rig/build and rig/compare:
 #
 #     KEP_MACHINE=aarch64 KEP_CC=aarch64-linux-gnu-gcc KEP_EMULATOR='qemu-aarch64 -L /usr/aarch64-linux-gnu' rig/build
 
@@ -39,31 +39,21 @@ kep_choose() {
     esac
 }
 
-# Chooses the road, and sees that its archive is made. Where that fails on aarch64, there still is the kit's road.
+# Chooses the road, and sees that its archive is made.
 kep_ready() {
     kep_choose
-    made "$kep_made" && return
-    [ "$kep_made" = native ] || return 1
-    made_say "the archive for x86-64 is taken, under the kit's emulator"
-    kep_cc=''
-    made archive
+    made "$kep_made"
 }
 
-# Sets kep_home to the kit, kep_own to its part for this machine, kep_tools to the tools in it, and kep_emulator to its emulator, if any.
+# Sets kep_home to the kit and kep_tools to the tools in it.
 kep_find_kit() {
-    kep_home=${RATTLE_HOME:-}
-    if [ -z "$kep_home" ]; then
-        kep_word=$(command -v rt) || {
-            made_say "no rt on the path, so the kit cannot be found (or set RATTLE_HOME to its folder)"
-            return 1
-        }
-        kep_home=$(dirname -- "$(dirname -- "$(readlink -f -- "$kep_word")")")
+    if ! kep_word=$(rt doc 2>/dev/null); then
+        made_say "no working rt on the path, so the kit cannot be found"
+        return 1
     fi
-    kep_own=$kep_home/on/$kep_host
-    kep_tools=$kep_own/toolchain
-    kep_emulator=$kep_tools/bin/qemu-x86_64
-    [ -x "$kep_emulator" ] || kep_emulator=''
-    if [ ! -x "$kep_own/bin/rattle-link" ] || [ ! -x "$kep_tools/bin/clang" ]; then
+    kep_home=$(dirname -- "$kep_word")
+    kep_tools=$kep_home/toolchain
+    if [ "$kep_host" != x86_64 ] || [ ! -x "$kep_home/bin/rattle-link" ] || [ ! -x "$kep_tools/bin/clang" ]; then
         made_say "the kit at $kep_home has no clang and rattle-link for this machine, $kep_host"
         return 1
     fi
@@ -82,7 +72,7 @@ kep_link() { # OUT SRC.c ARCHIVE
     kep_find_kit || return 1
     "$kep_tools/bin/clang" --target=x86_64-unknown-linux-gnu -fPIE -std=c11 -O2 -Wall -Wextra \
         -nostdinc -isystem "$top/rig/include" -I"$top/rig" -c -o "$1.o" "$2" || return 1
-    "$kep_own/bin/rattle-link" --target x86_64-unknown-linux-gnu --toolchain "$kep_tools" \
+    "$kep_home/bin/rattle-link" --target x86_64-unknown-linux-gnu --toolchain "$kep_tools" \
         -o "$1" "$1.o" "$3" 2>"$1.said" || { cat "$1.said" >&2; return 1; }
     rm -f "$1.o" "$1.said"
 }
@@ -93,17 +83,9 @@ kep_before() {
         # shellcheck disable=SC2086
         [ -z "${KEP_EMULATOR:-}" ] || printf '%s\n' $KEP_EMULATOR
     else
-        kep_before_kit
+        kep_find_kit || return 1
+        printf '%s\n' "$kep_tools/lib/ld-linux-x86-64.so.2" --library-path "$kep_tools/lib"
     fi
-}
-
-# The same for a program of the kit's, as target/bin/bench is.
-kep_before_bench() { [ "$kep_host" = x86_64 ] || kep_before_kit; }
-
-kep_before_kit() {
-    kep_find_kit || return 1
-    [ -z "$kep_emulator" ] || printf '%s\n' "$kep_emulator"
-    printf '%s\n' "$kep_tools/lib/ld-linux-x86-64.so.2" --library-path "$kep_tools/lib"
 }
 
 # Runs a program behind the words that stand before it. No variable of the emulator's is left to change what it does.

@@ -9,9 +9,10 @@
 #     made native || exit 3          target/staticlib/librig-$kep_machine.a: rig/link.sh sets the machine
 #     made_cargo VERB WORDS..        cargo on the model, into target/model
 #
-# Contents decide, and no dates: a file that was unpacked or copied may have an old one. Beside what was made stands a stamp: the sums
-# of the sources and of itself, and the kit's name. Where the stamp does not hold, rt is asked, which proves what has changed. Without
-# rt, only what has its stamp is taken. What is said goes to standard error.
+# Contents decide, and no dates: a file that was unpacked or copied may have an old one. In target/made stands a stamp of what was made:
+# the sums of the sources and of itself, and the kit's name. Where the stamp does not hold, rt is asked, which proves what has changed
+# and leaves what it makes in the crate's own out/, from where it is copied. Without rt, only what has its stamp is taken. What is said
+# goes to standard error.
 
 made_say() { printf '%s: %s\n' "${0##*/}" "$*" >&2 2>/dev/null || :; }
 
@@ -50,11 +51,12 @@ made_wait() { # PID
 made() { # bench | archive | native
     made_also=''
     case $1 in
-    bench) made_file=target/bin/bench made_crate=bench made_command='rt check bench' ;;
-    archive) made_file=target/staticlib/librig.a made_crate=rig made_command='rt staticlib rig' ;;
+    # rt runs the program that it has made, here on no input
+    bench) made_file=target/bin/bench made_crate=bench made_command='rt run' made_out=out/bench ;;
+    archive) made_file=target/staticlib/librig.a made_crate=rig_c made_command='rt lib' made_out=out/librig_c.a ;;
     *)
-        made_file=target/staticlib/librig-$kep_machine.a made_crate=rig made_command="rig/native-archive $kep_machine"
-        made_also=rig/native-archive
+        made_file=target/staticlib/librig-$kep_machine.a made_crate=rig_c made_out=''
+        made_command="../../rig/native-archive $kep_machine" made_also=rig/native-archive
         ;;
     esac
     made_stamp=$top/target/made/${made_file##*/}
@@ -87,8 +89,10 @@ made() { # bench | archive | native
 
 made_sum_of_sources() { made_sum_of crates.txt crates ${made_also:+"$made_also"}; }
 
+# Of a crate, all but must-fail/, and out/, where rt keeps what it has made.
 made_sum_of() { # PATHS
-    (cd "$top" && find "$@" -name must-fail -prune -o -type f -exec sha256sum {} +) | LC_ALL=C sort | sha256sum | cut -d ' ' -f 1
+    (cd "$top" && find "$@" -name must-fail -prune -o -path 'crates/*/out' ! -path 'crates/*/*/out' -prune -o -type f -exec sha256sum {} +) |
+        LC_ALL=C sort | sha256sum | cut -d ' ' -f 1
 }
 
 made_sum_of_file() { sha256sum <"$top/$made_file" | cut -d ' ' -f 1; }
@@ -104,12 +108,10 @@ made_holds() {
 made_ask() {
     made_log=$made_stamp.log
     made_say "asking rt for $made_file; it proves what has changed, which takes some minutes the first time"
-    # rt does not look at what it made: where that is gone, or not as it was made, it has to be made anew
-    if [ ! -f "$top/$made_file" ] || grep -qs "^$made_sources " "$made_stamp"; then rm -f "$top/target/stamp/$made_crate"; fi
-    true >"$made_log" && true >"$made_stamp.begun" || return 1
+    true >"$made_log" || return 1
     made_leader=$(command -v setsid) || made_leader=''
     # shellcheck disable=SC2086
-    (cd "$top" && exec $made_leader $made_command) >"$made_log" 2>&1 9>&- &
+    (cd "$top/crates/$made_crate" && exec $made_leader $made_command) </dev/null >"$made_log" 2>&1 9>&- &
     made_rt=$!
     made_show 9>&- &
     made_shower=$!
@@ -119,6 +121,8 @@ made_ask() {
     if [ "$made_rt_status" -ne 0 ]; then
         made_failures <"$made_log" >&2
         made_say "$made_command ended with status $made_rt_status"
+    elif [ -n "$made_out" ] && ! made_take; then
+        made_say "$made_command ended well, and crates/$made_crate/$made_out cannot be copied to $made_file"
     elif [ ! -f "$top/$made_file" ]; then
         made_say "$made_command ended well, and $made_file is not there"
     elif [ "$made_sources" != "$(made_sum_of_sources)" ]; then
@@ -131,24 +135,29 @@ made_ask() {
     return 1
 }
 
-# Of what rt said, what belongs to a crate that was not proved: a crate's lines end in one of rt's own.
+# Copies what rt made, whole or not at all.
+made_take() {
+    mkdir -p "$top/${made_file%/*}" && cp "$top/crates/$made_crate/$made_out" "$top/$made_file.new" && mv "$top/$made_file.new" "$top/$made_file"
+} 2>/dev/null
+
+# Of what rt said, what belongs to the crate that was not proved, which is the last one: rt begins each by a line of its own.
 made_failures() {
-    awk '{ said = said $0 "\n" } /^rt: / { if (!/ proved \(/) printf "%s", said; said = "" } END { printf "%s", said }'
+    awk '/^rt: chose / { said = ""; next } { said = said $0 "\n" } END { printf "%s", said }'
 }
 
 # Shows how the proving goes, as long as it goes on: on a terminal by one line that moves, else by rt's own lines.
 made_show() {
-    # the crate and all below it, each once; a line has only those that its files name, and io and libc are the kit's
-    made_all=$(awk -v name="$made_crate" -F : '
+    # the crate and all below it, each once, in the order in which rt takes them; what else a line names is the kit's
+    made_order=$(awk -v name="$made_crate" -F : '
         function take(crate,  below, k, i) {
             if (taken[crate]++) return
-            count++
             k = split(deps[crate], below, " ")
             for (i = 1; i <= k; i++) if (below[i] in deps) take(below[i])
+            print crate
         }
         { sub(/#.*/, "") }
-        NF > 1 { deps[$1] = $2 }
-        END { take(name); print count }' "$top/crates.txt")
+        NF > 1 { sub(/[ \t].*/, "", $1); deps[$1] = $2 }
+        END { take(name) }' "$top/crates.txt")
     made_told=0 made_on=1
     while [ "$made_on" -eq 1 ]; do
         kill -0 "$made_rt" 2>/dev/null || made_on=0
@@ -158,12 +167,12 @@ made_show() {
     [ ! -t 2 ] || printf '\r%70s\r' '' >&2
 }
 
-# While rt is at a crate, that has the word failed in its log.
+# The crate that rt is at is the last one that it chose to prove: those before it in the order are done, by now or by earlier runs.
 made_move() {
-    made_now=$(find "$top/target/log" -name '*.res' -newer "$made_stamp.begun" -exec grep -l failed {} + 2>/dev/null | sed 's,.*/,,; s,\.res$,,' | tr '\n' ' ')
-    made_done=$(grep -c '^rt: .* proved (' "$made_log") || :
-    [ "$made_done" -lt "$made_all" ] || made_done=$((made_all - 1))
-    printf '\r%-70.70s' "${0##*/}: proving $((made_done + 1)) of $made_all: ${made_now:-$made_crate}" >&2
+    made_now=$(sed -n 's/^rt: chose --jobs [0-9]* for //p' "$made_log" | tail -n 1)
+    printf '\r%-70.70s' "$(printf '%s\n' "$made_order" | awk -v name="$made_now" -v script="${0##*/}" '
+        $0 == name { at = NR }
+        END { printf "%s: proving %d of %d: %s", script, at ? at : 1, NR, at ? name : "what is below" }')" >&2
 }
 
 made_list() {
