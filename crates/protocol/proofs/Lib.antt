@@ -2,6 +2,7 @@ pub mod Laws
 pub mod Sound
 pub mod Shape
 pub mod Steps
+pub mod Refusals
 pub mod Finds
 pub mod Calls
 pub mod Theorems

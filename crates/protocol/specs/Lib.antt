@@ -5,6 +5,7 @@ pub mod Cases
 pub mod Entries
 pub mod Rules
 pub mod Steps
+pub mod Refusals
 pub mod Runs
 pub mod Names
 pub mod Calls

@@ -1,5 +1,5 @@
-// The numbers of document 01 that the code names, as in specs/Net.antt; and the records that the rules speak of: what a station knows
-// of one group, a message, what a reply comes to, and the counts of a run.
+// The numbers of document 01 that the code names, as in specs/Net.antt; the records that the rules speak of: what a station knows of one
+// group, a message, what a reply comes to, and the counts of a run; and why a call is refused.
 #![tactic(auto)]
 
 pub const NIL: u8 = 255;
@@ -38,10 +38,10 @@ pub struct Message {
     pub clock: u32,
 }
 
-// What comes of a reply, in the order in which it is tested.
-#[derive(Clone, Copy)]
+// What comes of a reply, in the order in which it is tested, with the number of each case.
+#[derive(Clone, Copy, PartialEq, Eq)]
 pub enum Case {
-    Adopted,
+    Adopted = 1,
     NotTentative,
     Unconnected,
     NotGreater,
@@ -64,4 +64,21 @@ pub struct Tally {
     pub delivered: u32,
     pub lost: u32,
     pub replies: Replies,
+}
+
+// Why a call is refused: the rows of the outcome table, with their numbers. 0 is no refusal.
+#[derive(Clone, Copy, PartialEq, Eq)]
+pub enum Refusal {
+    NotANet = 1,
+    NotAnAction,
+    BadOperand,
+    NotEnabled,
+    LastClock,
+    FullChannel,
+    NoSuchName,
+    NotOnTree,
+    NotAPlan,
+    WrongSize,
+    CutScript,
+    LongScript,
 }
