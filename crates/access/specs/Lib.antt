@@ -1,2 +1,3 @@
 -- What reading and changing a net's bytes asks of them.
 pub mod Inner
+pub mod Seen

@@ -11,80 +11,18 @@ ghost use Rattle.channel.specs.Inner.Channels.{IsChannel};
 ghost use Rattle.net.specs.View.{view, entry_of};
 ghost use Rattle.access.specs.Inner.Nets.{IsNet};
 
-use bits::number::{get16, get32, wide};
+use bits::number::{get16, get32};
 use layout::form::Mark;
 use layout::offset::CHANNEL_SIZE;
 use protocol::{CAPACITY, Entry, Message, REPLY, REQUEST};
 
-// How many stations there are.
-pub fn stations(net: &[u8]) -> u8
-    requires { IsNet net.now }
-    ensures { result ≡ (view net.now).stations }
-{
-    layout::front::stations(net)
-}
-
-// How many groups.
-pub fn groups(net: &[u8]) -> u8
-    requires { IsNet net.now }
-    ensures { result ≡ (view net.now).groups }
-{
-    layout::front::groups(net)
-}
-
-// Whether g is one of the groups.
-pub fn is_group(net: &[u8], g: u8) -> bool
-    requires { IsNet net.now }
-    ensures { result ≡ group? (view net.now) g }
-{
-    g < groups(net)
-}
-
-// Whether p is one of the stations.
-pub fn is_station(net: &[u8], p: u8) -> bool
-    requires { IsNet net.now }
-    ensures { result ≡ station? (view net.now) p }
-{
-    p < stations(net)
-}
-
-// Whether p and q are stations, and neighbours: only stations are neighbours.
-pub fn near(net: &[u8], p: u8, q: u8) -> bool
-    requires { IsNet net.now }
-    ensures { result ≡ near? (view net.now) p q }
-{
-    if !is_station(net, p) {
-        return false;
-    }
-    bits::mask::has(layout::front::neighbours(net, wide(p)), q)
-}
-
-// The name of group g.
-pub fn name_of(net: &[u8], g: u8) -> &[u8]
-    requires net { IsNet net.now }
-    requires g_bound { g < (view net.now).groups }
-    ensures { (result.now ≡ (view net.now).name g) × (length result.now ≤ longest_name) }
-{
-    let at = layout::offset::group_at(wide(g)) + 1;
-    &net[at..at + wide(layout::front::name_length(net, wide(g)))]
-}
-
-// The root of group g.
-pub fn root_of(net: &[u8], g: u8) -> u8
-    requires net { IsNet net.now }
-    requires g_bound { g < (view net.now).groups }
-    ensures { (result ≡ (view net.now).root g) × (result < (view net.now).stations) }
-{
-    layout::front::root(net, wide(g))
-}
-
-// The route from p towards d.
-pub fn route_of(net: &[u8], p: u8, d: u8) -> u8
-    requires net { IsNet net.now }
-    requires p_bound { (p < (view net.now).stations) × (d < (view net.now).stations) }
-    ensures { result ≡ (view net.now).route p d }
-{
-    net[layout::offset::route_at(wide(p), wide(d))]
+// Bytes that are a net's, in the form of this mark, to be read: whoever has them need not look again.
+#[derive(Clone, Copy)]
+pub struct NetBytes<'a> {
+    pub bytes: &'a [u8],
+    pub mark: Mark,
+    ghost is_net: { IsNet bytes.now },
+    ghost is_marked: { mark ≡ mark_of bytes.now },
 }
 
 fn read_entry(s: &[u8], at: usize) -> Entry
@@ -106,81 +44,127 @@ pub fn entry_place(m: Mark, g: u8, p: u8) -> usize
     requires { (g < most_groups) × (p < most_stations) }
     ensures { (result ≡ entry_at m g p) × (result + entry_size ≤ channels_at) }
 {
-    layout::form::entry_at(m, wide(g), wide(p))
+    layout::form::entry_at(m, usize::from(g), usize::from(p))
 }
 
-// The entry of station p in group g, of a net in the form of this mark: whoever reads many knows the form, and need not look.
-pub fn entry_as(net: &[u8], m: Mark, g: u8, p: u8) -> Entry
-    requires net { IsNet net.now }
-    requires m_value { (m ≡ mark_of net.now) × (g < (view net.now).groups) × (p < (view net.now).stations) }
-    ensures { result ≡ (view net.now).entry g p }
-{
-    read_entry(net, entry_place(m, g, p))
-}
+impl<'a> NetBytes<'a> {
+    ghost use Rattle.access.specs.Seen.{net_of};
 
-// The same, in whatever form the net is.
-pub fn entry_of(net: &[u8], g: u8, p: u8) -> Entry
-    requires net { IsNet net.now }
-    requires g_bound { (g < (view net.now).groups) × (p < (view net.now).stations) }
-    ensures { result ≡ (view net.now).entry g p }
-{
-    entry_as(net, layout::form::mark_of(net), g, p)
-}
-
-// The bytes of the channel from s to d.
-fn channel_of(net: &[u8], s: u8, d: u8) -> &[u8]
-    requires net { IsNet net.now }
-    requires s_bound { (s < (view net.now).stations) × (d < (view net.now).stations) }
-    ensures { IsChannel result.now × (messages_of result.now ≡ (view net.now).channel s d) }
-{
-    let at = layout::offset::channel_at(wide(s), wide(d));
-    &net[at..at + CHANNEL_SIZE]
-}
-
-// How many messages are on their way from s to d.
-pub fn in_channel(net: &[u8], s: u8, d: u8) -> u8
-    requires net { IsNet net.now }
-    requires s_bound { (s < (view net.now).stations) × (d < (view net.now).stations) }
-    ensures { result ≡ length ((view net.now).channel s d) }
-{
-    channel::count(channel_of(net, s, d))
-}
-
-// Whether another message may go from s to d.
-pub fn has_room(net: &[u8], s: u8, d: u8) -> bool
-    requires net { IsNet net.now }
-    requires s_bound { (s < (view net.now).stations) × (d < (view net.now).stations) }
-    ensures { result ≡ room? (view net.now) s d }
-{
-    in_channel(net, s, d) < CAPACITY
-}
-
-// The oldest message from s to d.
-pub fn oldest(net: &[u8], s: u8, d: u8) -> Message
-    requires net { IsNet net.now }
-    requires s_bound { (s < (view net.now).stations) × (d < (view net.now).stations) × (0 < length ((view net.now).channel s d)) }
-    ensures { result ≡ get_or ((view net.now).channel s d) 0 no_message }
-{
-    channel::message_at(channel_of(net, s, d), 0)
-}
-
-// Whether no message of a kind and a group is on its way from s to d.
-fn none_of(net: &[u8], s: u8, d: u8, kind: u8, g: u8) -> bool
-    requires net { IsNet net.now }
-    requires s_bound { (s < (view net.now).stations) × (d < (view net.now).stations) }
-    ensures { result ≡ eqb (count_of kind g ((view net.now).channel s d)) 0 }
-{
-    channel::none_of(channel_of(net, s, d), kind, g)
-}
-
-// Whether no request of p to q and no reply of q to p is on its way.
-pub fn quiet(net: &[u8], g: u8, p: u8, q: u8) -> bool
-    requires net { IsNet net.now }
-    requires p_bound { (p < (view net.now).stations) × (q < (view net.now).stations) }
-    ensures { result ≡ eqb (under_way (view net.now).channel g p q) 0 }
-{
-    if !none_of(net, p, q, REQUEST, g) {
-        return false;
+    // How many stations there are.
+    pub fn stations(&self) -> u8
+        ensures { result ≡ (net_of self.now).stations }
+    {
+        layout::front::stations(self.bytes)
     }
-    none_of(net, q, p, REPLY, g)
+
+    // How many groups.
+    pub fn groups(&self) -> u8
+        ensures { result ≡ (net_of self.now).groups }
+    {
+        layout::front::groups(self.bytes)
+    }
+
+    // Whether g is one of the groups.
+    pub fn is_group(&self, g: u8) -> bool
+        ensures { result ≡ group? (net_of self.now) g }
+    {
+        g < self.groups()
+    }
+
+    // Whether p is one of the stations.
+    pub fn is_station(&self, p: u8) -> bool
+        ensures { result ≡ station? (net_of self.now) p }
+    {
+        p < self.stations()
+    }
+
+    // Whether p and q are stations, and neighbours: only stations are neighbours.
+    pub fn near(&self, p: u8, q: u8) -> bool
+        ensures { result ≡ near? (net_of self.now) p q }
+    {
+        self.is_station(p)
+            && bits::mask::has(layout::front::neighbours(self.bytes, usize::from(p)), q)
+    }
+
+    // The name of group g.
+    pub fn name_of(&self, g: u8) -> &'a [u8]
+        requires { g < (net_of self.now).groups }
+        ensures { (result.now ≡ (net_of self.now).name g) × (length result.now ≤ longest_name) }
+    {
+        let at = layout::offset::group_at(usize::from(g)) + 1;
+        &self.bytes[at..at + usize::from(layout::front::name_length(self.bytes, usize::from(g)))]
+    }
+
+    // The root of group g.
+    pub fn root_of(&self, g: u8) -> u8
+        requires { g < (net_of self.now).groups }
+        ensures { (result ≡ (net_of self.now).root g) × (result < (net_of self.now).stations) }
+    {
+        layout::front::root(self.bytes, usize::from(g))
+    }
+
+    // The route from p towards d.
+    pub fn route_of(&self, p: u8, d: u8) -> u8
+        requires { (p < (net_of self.now).stations) × (d < (net_of self.now).stations) }
+        ensures { result ≡ (net_of self.now).route p d }
+    {
+        self.bytes[layout::offset::route_at(usize::from(p), usize::from(d))]
+    }
+
+    // The entry of station p in group g.
+    pub fn entry(&self, g: u8, p: u8) -> Entry
+        requires { (g < (net_of self.now).groups) × (p < (net_of self.now).stations) }
+        ensures { result ≡ (net_of self.now).entry g p }
+    {
+        read_entry(self.bytes, entry_place(self.mark, g, p))
+    }
+
+    // The bytes of the channel from s to d.
+    fn channel_of(&self, s: u8, d: u8) -> &'a [u8]
+        requires { (s < (net_of self.now).stations) × (d < (net_of self.now).stations) }
+        ensures { IsChannel result.now × (messages_of result.now ≡ (net_of self.now).channel s d) }
+    {
+        let at = layout::offset::channel_at(usize::from(s), usize::from(d));
+        &self.bytes[at..at + CHANNEL_SIZE]
+    }
+
+    // How many messages are on their way from s to d.
+    pub fn in_channel(&self, s: u8, d: u8) -> u8
+        requires { (s < (net_of self.now).stations) × (d < (net_of self.now).stations) }
+        ensures { result ≡ length ((net_of self.now).channel s d) }
+    {
+        channel::count(self.channel_of(s, d))
+    }
+
+    // Whether another message may go from s to d.
+    pub fn has_room(&self, s: u8, d: u8) -> bool
+        requires { (s < (net_of self.now).stations) × (d < (net_of self.now).stations) }
+        ensures { result ≡ room? (net_of self.now) s d }
+    {
+        self.in_channel(s, d) < CAPACITY
+    }
+
+    // The oldest message from s to d.
+    pub fn oldest(&self, s: u8, d: u8) -> Message
+        requires { (s < (net_of self.now).stations) × (d < (net_of self.now).stations) × (0 < length ((net_of self.now).channel s d)) }
+        ensures { result ≡ get_or ((net_of self.now).channel s d) 0 no_message }
+    {
+        channel::message_at(self.channel_of(s, d), 0)
+    }
+
+    // Whether no message of a kind and a group is on its way from s to d.
+    fn none_of(&self, s: u8, d: u8, kind: u8, g: u8) -> bool
+        requires { (s < (net_of self.now).stations) × (d < (net_of self.now).stations) }
+        ensures { result ≡ eqb (count_of kind g ((net_of self.now).channel s d)) 0 }
+    {
+        channel::none_of(self.channel_of(s, d), kind, g)
+    }
+
+    // Whether no request of p to q and no reply of q to p is on its way.
+    pub fn quiet(&self, g: u8, p: u8, q: u8) -> bool
+        requires { (p < (net_of self.now).stations) × (q < (net_of self.now).stations) }
+        ensures { result ≡ eqb (under_way (net_of self.now).channel g p q) 0 }
+    {
+        self.none_of(p, q, REQUEST, g) && self.none_of(q, p, REPLY, g)
+    }
 }

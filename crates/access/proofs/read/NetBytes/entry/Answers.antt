@@ -1,0 +1,15 @@
+use Rattle.std.proofs.Common.{ℕ, sym, ap, ◌∙◌, arith}
+use Rattle.layout.specs.declared.form.Mark.{Mark}
+use Rattle.layout.specs.Marks.{entry_at}
+use Rattle.bits.specs.Parts.{part}
+use Rattle.net.specs.View.{entry_of}
+use Rattle.net.proofs.Forms.{view-entry}
+use Rattle.access.proofs.read.NetBytes.entry.Goals as goal
+
+pub returns : goal.returns
+returns c =
+    let a = c.args in
+    let n = a.self.now in
+    c.read_entry.ensures
+    ∙ ap (λ (x : ℕ). entry_of (part 12 n.bytes.now x)) (c.entry_place.ensures.0 ∙ ap (λ (m : Mark). entry_at m a.g a.p) n.is_marked)
+    ∙ sym (view-entry n.bytes.now a.g a.p (omega arith) (omega arith))

@@ -1,0 +1,7 @@
+use Rattle.std.proofs.Common.{ap, ltb}
+use Rattle.protocol.specs.Net.{group?}
+use Rattle.access.proofs.read.NetBytes.is_group.Goals as goal
+
+pub returns : goal.returns
+unfolding group?
+returns c = ap (ltb _) c.groups.ensures

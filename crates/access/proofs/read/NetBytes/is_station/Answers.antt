@@ -1,0 +1,7 @@
+use Rattle.std.proofs.Common.{ap, ltb}
+use Rattle.protocol.specs.Net.{station?}
+use Rattle.access.proofs.read.NetBytes.is_station.Goals as goal
+
+pub returns : goal.returns
+unfolding station?
+returns c = ap (ltb _) c.stations.ensures
