@@ -24,9 +24,9 @@ module _ (N : Net) where
       let u : ltb p N.stations ≡ true = search (and_l, and_r) in
       (ltb-true _ _ t, ltb-true _ _ u)
 
-  pub route-in : (p d q : ℕ) → (station? N p && station? N d && not (eqb p d) && (eqb q nil || near? N p q)) ≡ true → (p < N.stations) × (d < N.stations)
+  pub stations-in : (p d : ℕ) (x : Bool) → (station? N p && station? N d && x) ≡ true → (p < N.stations) × (d < N.stations)
   unfolding station?
-  route-in p d q o =
+  stations-in p d x o =
       let t : ltb p N.stations ≡ true = search (and_l, and_r) in
       let u : ltb d N.stations ≡ true = search (and_l, and_r) in
       (ltb-true _ _ t, ltb-true _ _ u)

@@ -1,0 +1,7 @@
+use Rattle.std.proofs.Common.{ltb}
+use Rattle.access.specs.Seen.{net_of}
+use Rattle.action.proofs.InRange.{station-in}
+use Rattle.action.proofs.operands.of_flag.Goals as goal
+
+pub returns-clause-g_bound : goal.returns-clause-g_bound
+returns-clause-g_bound c = λ t. station-in (net_of c.args.net.now) c.args.g c.args.p (ltb c.args.v 2) (rw (← c.is_group.ensures, ← c.is_station.ensures) t)
