@@ -8,6 +8,7 @@ ghost use Rattle.net.specs.View.{view};
 ghost use Rattle.access.specs.Inner.Nets.{IsNet};
 ghost use Rattle.action.specs.Inner.Ends.{ActionEnd};
 
+use access::read::NetBytes;
 use action::Answer;
 use action::operands::of_group;
 use layout::form::Mark;
@@ -18,11 +19,12 @@ pub fn tick(net: &mut [u8], m: Mark, g: u8, b: u8, c: u8) -> Answer
     requires m_value { m ≡ mark_of net.old }
     ensures { ActionEnd (rule.tick (view net.old) g b c) net.old result net.new }
 {
-    if !of_group(net, g, b, c) {
+    let seen = NetBytes { bytes: net, mark: m };
+    if !of_group(&seen, g, b, c) {
         return Answer::Refused;
     }
-    let root = access::read::root_of(net, g);
-    let clock = access::read::entry_as(net, m, g, root).clock;
+    let root = seen.root_of(g);
+    let clock = seen.entry(g, root).clock;
     if clock >= LARGEST_CLOCK {
         return Answer::Refused;
     }
