@@ -50,6 +50,17 @@ pub fn entry_place(m: Mark, g: u8, p: u8) -> usize
 impl<'a> NetBytes<'a> {
     ghost use Rattle.access.specs.Seen.{net_of};
 
+    // A net in whatever form its byte 7 says.
+    pub fn of(bytes: &'a [u8]) -> Self
+        requires { IsNet bytes.now }
+        ensures { result.bytes.now ≡ bytes.now }
+    {
+        NetBytes {
+            bytes,
+            mark: layout::form::mark_of(bytes),
+        }
+    }
+
     // How many stations there are.
     pub fn stations(&self) -> u8
         ensures { result ≡ (net_of self.now).stations }

@@ -8,6 +8,7 @@ ghost use Rattle.net.specs.View.{view};
 ghost use Rattle.access.specs.Inner.Nets.{IsNet};
 ghost use Rattle.action.specs.Inner.Ends.{ActionEnd};
 
+use access::read::NetBytes;
 use action::Answer;
 use action::operands::of_station;
 use layout::form::Mark;
@@ -17,16 +18,17 @@ pub fn ask(net: &mut [u8], m: Mark, g: u8, p: u8, c: u8) -> Answer
     requires m_value { m ≡ mark_of net.old }
     ensures { ActionEnd (rule.ask (view net.old) g p c) net.old result net.new }
 {
-    if !of_station(net, g, p, c) {
+    let seen = NetBytes { bytes: net, mark: m };
+    if !of_station(&seen, g, p, c) {
         return Answer::Refused;
     }
-    let root = access::read::root_of(net, g);
-    let q = access::read::route_of(net, p, root);
-    let e = access::read::entry_as(net, m, g, p);
+    let root = seen.root_of(g);
+    let q = seen.route_of(p, root);
+    let e = seen.entry(g, p);
     if !entries::may_ask(root, p, q, e) {
         return Answer::Refused;
     }
-    if !access::read::has_room(net, p, q) {
+    if !seen.has_room(p, q) {
         return Answer::Refused;
     }
     access::change::set_tentative(net, m, g, p, q);

@@ -13,6 +13,7 @@ ghost use Rattle.access.specs.Inner.Nets.{IsNet, EntryMade};
 ghost use Rattle.action.specs.Inner.Ends.{ActionEnd};
 ghost use Rattle.deliver.specs.Inner.MayDeliver.{MayDeliver};
 
+use access::read::NetBytes;
 use action::Answer;
 use action::operands::of_cable;
 use layout::form::Mark;
@@ -27,8 +28,9 @@ fn answer(net: &mut [u8], m: Mark, s: u8, d: u8, g: u8)
     ensures { net.new ≡ bytes_like net.old (answered (take_at (view net.old) s d 0) g s d) }
 {
     access::change::take_at(net, s, d, 0);
-    let root = access::read::root_of(net, g);
-    let e = entries::with_child(access::read::entry_as(net, m, g, d), s);
+    let seen = NetBytes { bytes: net, mark: m };
+    let root = seen.root_of(g);
+    let e = entries::with_child(seen.entry(g, d), s);
     access::change::set_children(net, m, g, d, e.children);
     access::change::send(net, d, s, entries::reply_of(g, root, d, e));
 }
@@ -41,7 +43,7 @@ fn adopt(net: &mut [u8], m: Mark, s: u8, d: u8, g: u8)
     requires g_bound { g < (view net.old).groups }
     ensures { EntryMade m net.old net.new g d (λ e. adopting e s (oldest (view net.old).channel s d)) }
 {
-    let reply = access::read::oldest(net, s, d);
+    let reply = NetBytes::of(net).oldest(s, d);
     access::change::set_clock(net, m, g, d, reply.clock);
     access::change::set_parent(net, m, g, d, s);
 }
@@ -56,7 +58,8 @@ fn listen(net: &mut [u8], m: Mark, s: u8, d: u8, reply: Message) -> Case
         × (net.new ≡ bytes_like net.old (heard (view net.old) s d reply)) }
 {
     let g = reply.group;
-    let e = access::read::entry_as(net, m, g, d);
+    let seen = NetBytes { bytes: net, mark: m };
+    let e = seen.entry(g, d);
     access::change::set_waiting(net, m, g, d, bits::mask::without(e.waiting, s));
     let case = entries::case_of(e, s, reply);
     if entries::is_adopted(case) {
@@ -84,15 +87,16 @@ pub fn deliver(net: &mut [u8], m: Mark, s: u8, d: u8, c: u8) -> Answer
     requires m_value { m ≡ mark_of net.old }
     ensures { ActionEnd (rule.deliver (view net.old) s d c) net.old result net.new }
 {
-    if !of_cable(net, s, d, c) {
+    let seen = NetBytes { bytes: net, mark: m };
+    if !of_cable(&seen, s, d, c) {
         return Answer::Refused;
     }
-    if access::read::in_channel(net, s, d) == 0 {
+    if seen.in_channel(s, d) == 0 {
         return Answer::Refused;
     }
-    let oldest = access::read::oldest(net, s, d);
+    let oldest = seen.oldest(s, d);
     if oldest.kind == REQUEST {
-        if !access::read::has_room(net, d, s) {
+        if !seen.has_room(d, s) {
             return Answer::Refused;
         }
         answer(net, m, s, d, oldest.group);

@@ -7,24 +7,22 @@ ghost use Rattle.protocol.specs.Rules as rule;
 ghost use Rattle.layout.specs.Marks.{mark_of};
 ghost use Rattle.net.specs.View.{view};
 ghost use Rattle.access.specs.Inner.Nets.{IsNet};
+ghost use Rattle.access.specs.Seen.{net_of};
 ghost use Rattle.action.specs.Inner.Ends.{ActionEnd};
 
+use access::read::NetBytes;
 use action::Answer;
 use action::operands::of_pair;
 use layout::form::Mark;
 
 // Whether x is a child of p that has its parent elsewhere, with nothing between the two under way.
-fn may_drop(net: &[u8], m: Mark, g: u8, p: u8, x: u8) -> bool
-    requires net { IsNet net.now }
-    requires m_value { (m ≡ mark_of net.now) × (g < (view net.now).groups) × (p < (view net.now).stations) × (x < (view net.now).stations) }
-    ensures { result ≡ (rule.drop_child (view net.now) g p x).enabled }
+fn may_drop(net: &NetBytes, g: u8, p: u8, x: u8) -> bool
+    requires { (g < (net_of net.now).groups) × (p < (net_of net.now).stations) × (x < (net_of net.now).stations) }
+    ensures { result ≡ (rule.drop_child (net_of net.now) g p x).enabled }
 {
-    let e = access::read::entry_as(net, m, g, p);
-    let child = access::read::entry_as(net, m, g, x);
-    if !(bits::mask::has_at(e.children, bits::number::wide(x)) & !(child.parent == p)) {
-        return false;
-    }
-    access::read::quiet(net, g, x, p)
+    let e = net.entry(g, p);
+    let child = net.entry(g, x);
+    (bits::mask::has_at(e.children, usize::from(x)) & (child.parent != p)) && net.quiet(g, x, p)
 }
 
 pub fn drop_child(net: &mut [u8], m: Mark, g: u8, p: u8, x: u8) -> Answer
@@ -32,14 +30,15 @@ pub fn drop_child(net: &mut [u8], m: Mark, g: u8, p: u8, x: u8) -> Answer
     requires m_value { m ≡ mark_of net.old }
     ensures { ActionEnd (rule.drop_child (view net.old) g p x) net.old result net.new }
 {
-    if !of_pair(net, g, p, x) {
+    let seen = NetBytes { bytes: net, mark: m };
+    if !of_pair(&seen, g, p, x) {
         return Answer::Refused;
     }
-    if !may_drop(net, m, g, p, x) {
+    if !may_drop(&seen, g, p, x) {
         return Answer::Refused;
     }
-    let root = access::read::root_of(net, g);
-    let e = entries::without_child(access::read::entry_as(net, m, g, p), x);
+    let root = seen.root_of(g);
+    let e = entries::without_child(seen.entry(g, p), x);
     access::change::set_children(net, m, g, p, e.children);
     action::leave::stay_or_leave(net, m, g, p, root, e);
     Answer::Changed

@@ -7,23 +7,20 @@ ghost use Rattle.protocol.specs.Rules as rule;
 ghost use Rattle.layout.specs.Marks.{mark_of};
 ghost use Rattle.net.specs.View.{view};
 ghost use Rattle.access.specs.Inner.Nets.{IsNet};
+ghost use Rattle.access.specs.Seen.{net_of};
 ghost use Rattle.action.specs.Inner.Ends.{ActionEnd};
 
+use access::read::NetBytes;
 use action::Answer;
 use action::operands::of_pair;
 use layout::form::Mark;
 
 // Whether p waits on q in vain.
-fn may_give_up(net: &[u8], m: Mark, g: u8, p: u8, q: u8) -> bool
-    requires net { IsNet net.now }
-    requires m_value { (m ≡ mark_of net.now) × (g < (view net.now).groups) × (p < (view net.now).stations) × (q < (view net.now).stations) }
-    ensures { result ≡ (rule.give_up (view net.now) g p q).enabled }
+fn may_give_up(net: &NetBytes, g: u8, p: u8, q: u8) -> bool
+    requires { (g < (net_of net.now).groups) × (p < (net_of net.now).stations) × (q < (net_of net.now).stations) }
+    ensures { result ≡ (rule.give_up (net_of net.now) g p q).enabled }
 {
-    let e = access::read::entry_as(net, m, g, p);
-    if !bits::mask::has_at(e.waiting, bits::number::wide(q)) {
-        return false;
-    }
-    access::read::quiet(net, g, p, q)
+    bits::mask::has_at(net.entry(g, p).waiting, usize::from(q)) && net.quiet(g, p, q)
 }
 
 pub fn give_up(net: &mut [u8], m: Mark, g: u8, p: u8, q: u8) -> Answer
@@ -31,13 +28,14 @@ pub fn give_up(net: &mut [u8], m: Mark, g: u8, p: u8, q: u8) -> Answer
     requires m_value { m ≡ mark_of net.old }
     ensures { ActionEnd (rule.give_up (view net.old) g p q) net.old result net.new }
 {
-    if !of_pair(net, g, p, q) {
+    let seen = NetBytes { bytes: net, mark: m };
+    if !of_pair(&seen, g, p, q) {
         return Answer::Refused;
     }
-    if !may_give_up(net, m, g, p, q) {
+    if !may_give_up(&seen, g, p, q) {
         return Answer::Refused;
     }
-    let e = access::read::entry_as(net, m, g, p);
+    let e = seen.entry(g, p);
     access::change::set_waiting(net, m, g, p, bits::mask::without(e.waiting, q));
     Answer::Changed
 }

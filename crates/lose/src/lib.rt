@@ -6,6 +6,7 @@ ghost use Rattle.net.specs.View.{view};
 ghost use Rattle.access.specs.Inner.Nets.{IsNet};
 ghost use Rattle.action.specs.Inner.Ends.{ActionEnd};
 
+use access::read::NetBytes;
 use action::Answer;
 use action::operands::of_position;
 
@@ -13,10 +14,11 @@ pub fn lose(net: &mut [u8], s: u8, d: u8, i: u8) -> Answer
     requires { IsNet net.old }
     ensures { ActionEnd (rule.lose (view net.old) s d i) net.old result net.new }
 {
-    if !of_position(net, s, d, i) {
+    let seen = NetBytes::of(net);
+    if !of_position(&seen, s, d, i) {
         return Answer::Refused;
     }
-    if i >= access::read::in_channel(net, s, d) {
+    if i >= seen.in_channel(s, d) {
         return Answer::Refused;
     }
     access::change::take_at(net, s, d, i);

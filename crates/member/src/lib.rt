@@ -8,6 +8,7 @@ ghost use Rattle.net.specs.View.{view};
 ghost use Rattle.access.specs.Inner.Nets.{IsNet};
 ghost use Rattle.action.specs.Inner.Ends.{ActionEnd};
 
+use access::read::NetBytes;
 use action::Answer;
 use action::operands::of_flag;
 use layout::form::Mark;
@@ -17,11 +18,12 @@ pub fn member(net: &mut [u8], m: Mark, g: u8, p: u8, v: u8) -> Answer
     requires m_value { m ≡ mark_of net.old }
     ensures { ActionEnd (rule.member (view net.old) g p v) net.old result net.new }
 {
-    if !of_flag(net, g, p, v) {
+    let seen = NetBytes { bytes: net, mark: m };
+    if !of_flag(&seen, g, p, v) {
         return Answer::Refused;
     }
-    let root = access::read::root_of(net, g);
-    let e = entries::with_member(access::read::entry_as(net, m, g, p), v);
+    let root = seen.root_of(g);
+    let e = entries::with_member(seen.entry(g, p), v);
     access::change::set_member(net, m, g, p, v);
     action::leave::stay_or_leave(net, m, g, p, root, e);
     Answer::Changed

@@ -8,6 +8,7 @@ ghost use Rattle.net.specs.View.{view};
 ghost use Rattle.access.specs.Inner.Nets.{IsNet};
 ghost use Rattle.action.specs.Inner.Ends.{ActionEnd};
 
+use access::read::NetBytes;
 use action::Answer;
 use action::operands::of_station;
 use layout::form::Mark;
@@ -17,15 +18,16 @@ pub fn refresh(net: &mut [u8], m: Mark, g: u8, p: u8, c: u8) -> Answer
     requires m_value { m ≡ mark_of net.old }
     ensures { ActionEnd (rule.refresh (view net.old) g p c) net.old result net.new }
 {
-    if !of_station(net, g, p, c) {
+    let seen = NetBytes { bytes: net, mark: m };
+    if !of_station(&seen, g, p, c) {
         return Answer::Refused;
     }
-    let e = access::read::entry_as(net, m, g, p);
+    let e = seen.entry(g, p);
     let q = e.parent;
     if !entries::may_refresh(e) {
         return Answer::Refused;
     }
-    if !access::read::has_room(net, p, q) {
+    if !seen.has_room(p, q) {
         return Answer::Refused;
     }
     access::change::set_waiting(net, m, g, p, bits::mask::with(e.waiting, q));

@@ -6,6 +6,7 @@ ghost use Rattle.net.specs.View.{view};
 ghost use Rattle.access.specs.Inner.Nets.{IsNet};
 ghost use Rattle.action.specs.Inner.Ends.{ActionEnd};
 
+use access::read::NetBytes;
 use action::Answer;
 use action::operands::of_route;
 
@@ -13,7 +14,8 @@ pub fn route(net: &mut [u8], p: u8, d: u8, q: u8) -> Answer
     requires { IsNet net.old }
     ensures { ActionEnd (rule.route (view net.old) p d q) net.old result net.new }
 {
-    if !of_route(net, p, d, q) {
+    let seen = NetBytes::of(net);
+    if !of_route(&seen, p, d, q) {
         return Answer::Refused;
     }
     access::change::set_route(net, p, d, q);

@@ -1,0 +1,107 @@
+use Rattle.std.proofs.Common.{◌≡◌, ◌<◌, ℕ, refl, sym, ap, ◌∙◌, true, arith}
+use Rattle.bits.specs.Masks.{with}
+use Rattle.protocol.specs.declared.Entry.{Entry}
+use Rattle.protocol.specs.Net.{set_entry, send}
+use Rattle.protocol.specs.Entries.{with_waiting, waits_on}
+use Rattle.protocol.specs.Rules.{room?}
+use Rattle.protocol.specs.Rules as rule
+use Rattle.protocol.proofs.Shape.Actions.{cable, refresh-near, refresh-entry}
+use Rattle.net.specs.View.{view}
+use Rattle.net.specs.Encode.{bytes_like}
+use Rattle.net.proofs.Forms.{seen}
+use Rattle.access.proofs.Laws.{made}
+use Rattle.action.proofs.Ends.{ends-3, ends-4, ends-6, ends-0}
+use Rattle.action.proofs.InRange.{parent-small}
+use Rattle.action.proofs.Posts.{may-send, sent}
+use Rattle.refresh.proofs.refresh.Goals as goal
+
+pub returns-then-not-of_station : goal.returns-then-not-of_station
+unfolding rule.refresh
+returns-then-not-of_station c = ends-3 _ _ (sym c.of_station.ensures.value ∙ c.if-not-of_station.true)
+
+pub may_refresh-requires : goal.may_refresh-requires
+may_refresh-requires c =
+    let a = c.args in
+    rw c.entry-e.ensures (parent-small (view a.net.now) (seen _ _ c.requires.net.shape) a.g a.p)
+
+pub returns-then-not-may_refresh : goal.returns-then-not-may_refresh
+unfolding rule.refresh
+returns-then-not-may_refresh c =
+    let a = c.args in
+    ends-4 (rule.refresh (view a.net.now) a.g a.p a.c) _ (sym c.of_station.ensures.value ∙ c.if-not-of_station.false)
+    (rw (← c.entry-e.ensures) (sym c.may_refresh.ensures ∙ c.if-not-may_refresh.true))
+
+pub has_room-requires : goal.has_room-requires
+unfolding rule.refresh
+has_room-requires c =
+    let a = c.args in
+    let N = view a.net.now in
+    let H = seen _ _ c.requires.net.shape in
+    let in-range = c.of_station.ensures.g_bound c.if-not-of_station.false in
+    let enabled : (rule.refresh N a.g a.p a.c).enabled ≡ true = rw (← c.entry-e.ensures) (sym c.may_refresh.ensures ∙ c.if-not-may_refresh.false) in
+    let near = (cable N H a.p _ (refresh-near N H a.g a.p a.c enabled)).1 in
+    (in-range.1, rw c.entry-e.ensures near)
+
+pub returns-then-not-has_room : goal.returns-then-not-has_room
+unfolding rule.refresh
+returns-then-not-has_room c =
+    let a = c.args in
+    let N = view a.net.now in
+    let H = seen _ _ c.requires.net.shape in
+    let in-range = c.of_station.ensures.g_bound c.if-not-of_station.false in
+    let enabled : (rule.refresh N a.g a.p a.c).enabled ≡ true = rw (← c.entry-e.ensures) (sym c.may_refresh.ensures ∙ c.if-not-may_refresh.false) in
+    ends-6 (rule.refresh N a.g a.p a.c) _ (sym c.of_station.ensures.value ∙ c.if-not-of_station.false) enabled refl
+    (rw (← c.entry-e.ensures) (sym c.has_room.ensures ∙ c.if-not-has_room.true))
+
+pub with-requires : goal.with-requires
+unfolding rule.refresh
+with-requires c =
+    let a = c.args in
+    let N = view a.net.now in
+    let H = seen _ _ c.requires.net.shape in
+    let in-range = c.of_station.ensures.g_bound c.if-not-of_station.false in
+    let enabled : (rule.refresh N a.g a.p a.c).enabled ≡ true = rw (← c.entry-e.ensures) (sym c.may_refresh.ensures ∙ c.if-not-may_refresh.false) in
+    let near = (cable N H a.p _ (refresh-near N H a.g a.p a.c enabled)).1 in
+    rw c.entry-e.ensures (omega (arith, near, c.requires.net.stations_most))
+
+pub send-requires : goal.send-requires
+unfolding rule.refresh
+send-requires c =
+    let a = c.args in
+    let N = view a.net.now in
+    let H = seen _ _ c.requires.net.shape in
+    let in-range = c.of_station.ensures.g_bound c.if-not-of_station.false in
+    let enabled : (rule.refresh N a.g a.p a.c).enabled ≡ true = rw (← c.entry-e.ensures) (sym c.may_refresh.ensures ∙ c.if-not-may_refresh.false) in
+    let near = (cable N H a.p _ (refresh-near N H a.g a.p a.c enabled)).1 in
+    let operands : (rule.refresh N a.g a.p a.c).operands ≡ true = sym c.of_station.ensures.value ∙ c.if-not-of_station.false in
+    let shaped = refresh-entry N H a.g a.p a.c operands enabled in
+    let mask = c.with.ensures ∙ ap (λ (e : Entry). with e.waiting e.parent) c.entry-e.ensures in
+    let written : c.set_waiting.new.net ≡ bytes_like a.net.now (set_entry N a.g a.p (waits_on (N.entry a.g a.p) (N.entry a.g a.p).parent)) =
+        made _ c.requires.net a.m a.g a.p _ (λ (e : Entry). with_waiting e c.with.result) c.requires.m_value in-range.0 in-range.1 c.set_waiting.ensures
+        ∙ (λ i. bytes_like a.net.now (set_entry N a.g a.p (with_waiting (N.entry a.g a.p) (mask i)))) in
+    let room : room? N a.p (N.entry a.g a.p).parent ≡ true =
+        sym (c.has_room.ensures ∙ ap (λ (e : Entry). room? N a.p e.parent) c.entry-e.ensures) ∙ c.if-not-has_room.false in
+    let sends = may-send _ a.g a.p _ shaped _ written (N.entry a.g a.p).parent in-range.1 near room in
+    rw c.entry-e.ensures (record { net = sends.0; s_bound = sends.1 })
+
+pub returns : goal.returns
+unfolding rule.refresh
+returns c =
+    let a = c.args in
+    let N = view a.net.now in
+    let H = seen _ _ c.requires.net.shape in
+    let in-range = c.of_station.ensures.g_bound c.if-not-of_station.false in
+    let enabled : (rule.refresh N a.g a.p a.c).enabled ≡ true = rw (← c.entry-e.ensures) (sym c.may_refresh.ensures ∙ c.if-not-may_refresh.false) in
+    let operands : (rule.refresh N a.g a.p a.c).operands ≡ true = sym c.of_station.ensures.value ∙ c.if-not-of_station.false in
+    let shaped = refresh-entry N H a.g a.p a.c operands enabled in
+    let mask = c.with.ensures ∙ ap (λ (e : Entry). with e.waiting e.parent) c.entry-e.ensures in
+    let written : c.set_waiting.new.net ≡ bytes_like a.net.now (set_entry N a.g a.p (waits_on (N.entry a.g a.p) (N.entry a.g a.p).parent)) =
+        made _ c.requires.net a.m a.g a.p _ (λ (e : Entry). with_waiting e c.with.result) c.requires.m_value in-range.0 in-range.1 c.set_waiting.ensures
+        ∙ (λ i. bytes_like a.net.now (set_entry N a.g a.p (with_waiting (N.entry a.g a.p) (mask i)))) in
+    let room : room? N a.p (N.entry a.g a.p).parent ≡ true =
+        sym (c.has_room.ensures ∙ ap (λ (e : Entry). room? N a.p e.parent) c.entry-e.ensures) ∙ c.if-not-has_room.false in
+    ends-0 _ _ refl refl
+    (record { operands = operands; enabled = enabled; clock_room = refl; send_room = room })
+    (sent _ a.g a.p _ shaped _ written _ _ _ c.send.ensures
+    ∙ (λ i. bytes_like a.net.now
+    (send (set_entry N a.g a.p (waits_on (N.entry a.g a.p) (N.entry a.g a.p).parent)) a.p (c.entry-e.ensures i).parent (c.request_of.ensures i))))
