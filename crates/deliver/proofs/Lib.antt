@@ -1,2 +1,3 @@
 pub mod Takes
 pub mod Delivers
+pub mod Adopts
