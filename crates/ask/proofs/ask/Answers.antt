@@ -1,7 +1,7 @@
 use Rattle.std.proofs.Common.{◌≡◌, ◌<◌, ℕ, refl, sym, ap, ◌∙◌, true, arith}
 use Rattle.bits.specs.Masks.{with}
 use Rattle.protocol.specs.declared.Entry.{Entry}
-use Rattle.protocol.specs.Net.{set_entry, send}
+use Rattle.protocol.specs.Net.{most_stations, set_entry, send}
 use Rattle.protocol.specs.Entries.{with_parents, with_waiting, asking}
 use Rattle.protocol.specs.Rules.{room?}
 use Rattle.protocol.specs.Rules as rule
@@ -79,7 +79,8 @@ with-requires c =
     let may : c.may_ask.result ≡ (rule.ask N a.g a.p a.c).enabled = rw (← route, ← c.entry-e.ensures, ← c.root_of-root.ensures.0) c.may_ask.ensures in
     let enabled = sym may ∙ c.if-not-may_ask.false in
     let near = (cable N H a.p _ (ask-near N H a.g a.p a.c enabled)).1 in
-    rw route (omega (arith, near, c.requires.net.stations_most))
+    let small : c.route_of-q.result < most_stations = rw route (omega (arith, near, c.requires.net.stations_most)) in
+    small
 
 pub send-requires : goal.send-requires
 unfolding rule.ask

@@ -1,7 +1,7 @@
 use Rattle.std.proofs.Common.{◌≡◌, ◌<◌, ℕ, refl, sym, ap, ◌∙◌, true, arith}
 use Rattle.bits.specs.Masks.{with}
 use Rattle.protocol.specs.declared.Entry.{Entry}
-use Rattle.protocol.specs.Net.{set_entry, send}
+use Rattle.protocol.specs.Net.{most_stations, set_entry, send}
 use Rattle.protocol.specs.Entries.{with_waiting, waits_on}
 use Rattle.protocol.specs.Rules.{room?}
 use Rattle.protocol.specs.Rules as rule
@@ -62,7 +62,8 @@ with-requires c =
     let in-range = c.of_station.ensures.g_bound c.if-not-of_station.false in
     let enabled : (rule.refresh N a.g a.p a.c).enabled ≡ true = rw (← c.entry-e.ensures) (sym c.may_refresh.ensures ∙ c.if-not-may_refresh.false) in
     let near = (cable N H a.p _ (refresh-near N H a.g a.p a.c enabled)).1 in
-    rw c.entry-e.ensures (omega (arith, near, c.requires.net.stations_most))
+    let small : c.entry-e.result.parent < most_stations = rw c.entry-e.ensures (omega (arith, near, c.requires.net.stations_most)) in
+    small
 
 pub send-requires : goal.send-requires
 unfolding rule.refresh
