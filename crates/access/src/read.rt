@@ -11,7 +11,7 @@ ghost use Rattle.channel.specs.Inner.Channels.{IsChannel};
 ghost use Rattle.net.specs.View.{view, entry_of};
 ghost use Rattle.access.specs.Inner.Nets.{IsNet};
 
-use bits::number::{get16, get32, wide};
+use bits::number::get;
 use layout::form::Mark;
 use layout::offset::CHANNEL_SIZE;
 use protocol::{CAPACITY, Entry, Message, REPLY, REQUEST};
@@ -53,10 +53,7 @@ pub fn near(net: &[u8], p: u8, q: u8) -> bool
     requires { IsNet net.now }
     ensures { result ≡ near? (view net.now) p q }
 {
-    if !is_station(net, p) {
-        return false;
-    }
-    bits::mask::has(layout::front::neighbours(net, wide(p)), q)
+    is_station(net, p) && bits::mask::has(layout::front::neighbours(net, usize::from(p)), q)
 }
 
 // The name of group g.
@@ -65,8 +62,8 @@ pub fn name_of(net: &[u8], g: u8) -> &[u8]
     requires g_bound { g < (view net.now).groups }
     ensures { (result.now ≡ (view net.now).name g) × (length result.now ≤ longest_name) }
 {
-    let at = layout::offset::group_at(wide(g)) + 1;
-    &net[at..at + wide(layout::front::name_length(net, wide(g)))]
+    let at = layout::offset::group_at(usize::from(g)) + 1;
+    &net[at..at + usize::from(layout::front::name_length(net, usize::from(g)))]
 }
 
 // The root of group g.
@@ -75,7 +72,7 @@ pub fn root_of(net: &[u8], g: u8) -> u8
     requires g_bound { g < (view net.now).groups }
     ensures { (result ≡ (view net.now).root g) × (result < (view net.now).stations) }
 {
-    layout::front::root(net, wide(g))
+    layout::front::root(net, usize::from(g))
 }
 
 // The route from p towards d.
@@ -84,7 +81,7 @@ pub fn route_of(net: &[u8], p: u8, d: u8) -> u8
     requires p_bound { (p < (view net.now).stations) × (d < (view net.now).stations) }
     ensures { result ≡ (view net.now).route p d }
 {
-    net[layout::offset::route_at(wide(p), wide(d))]
+    net[layout::offset::route_at(usize::from(p), usize::from(d))]
 }
 
 fn read_entry(s: &[u8], at: usize) -> Entry
@@ -95,9 +92,9 @@ fn read_entry(s: &[u8], at: usize) -> Entry
         parent: s[at],
         tentative: s[at + 1],
         member: s[at + 2],
-        clock: get32(s, at + 4),
-        children: get16(s, at + 8),
-        waiting: get16(s, at + 10),
+        clock: get(s, at + 4),
+        children: get(s, at + 8),
+        waiting: get(s, at + 10),
     }
 }
 
@@ -106,7 +103,7 @@ pub fn entry_place(m: Mark, g: u8, p: u8) -> usize
     requires { (g < most_groups) × (p < most_stations) }
     ensures { (result ≡ entry_at m g p) × (result + entry_size ≤ channels_at) }
 {
-    layout::form::entry_at(m, wide(g), wide(p))
+    layout::form::entry_at(m, usize::from(g), usize::from(p))
 }
 
 // The entry of station p in group g, of a net in the form of this mark: whoever reads many knows the form, and need not look.
@@ -133,7 +130,7 @@ fn channel_of(net: &[u8], s: u8, d: u8) -> &[u8]
     requires s_bound { (s < (view net.now).stations) × (d < (view net.now).stations) }
     ensures { IsChannel result.now × (messages_of result.now ≡ (view net.now).channel s d) }
 {
-    let at = layout::offset::channel_at(wide(s), wide(d));
+    let at = layout::offset::channel_at(usize::from(s), usize::from(d));
     &net[at..at + CHANNEL_SIZE]
 }
 
@@ -179,8 +176,5 @@ pub fn quiet(net: &[u8], g: u8, p: u8, q: u8) -> bool
     requires p_bound { (p < (view net.now).stations) × (q < (view net.now).stations) }
     ensures { result ≡ eqb (under_way (view net.now).channel g p q) 0 }
 {
-    if !none_of(net, p, q, REQUEST, g) {
-        return false;
-    }
-    none_of(net, q, p, REPLY, g)
+    none_of(net, p, q, REQUEST, g) && none_of(net, q, p, REPLY, g)
 }
