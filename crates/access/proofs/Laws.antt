@@ -6,7 +6,9 @@ use Prim.Native.Nat.{ℕ, ◌+◌, ◌-◌, ◌≤◌, ◌<◌}
 use native.Mathlib.Nat.{add-zero, add_assoc, add-sub_cancel_left}
 use native.Mathlib.Omega.{arith}
 use lib.ListN.{length}
+use Rattle.bits.specs.Numbers.{bytes}
 use Rattle.bits.specs.Parts.{part, splice}
+use Rattle.bits.proofs.Numbers.{length-bytes, bytes-one}
 use Rattle.bits.proofs.Parts.{lent, back, length_part, get_or-part, part-lent, part-part, put_whole, lent_back}
 use Rattle.protocol.specs.declared.Entry.{Entry}
 use Rattle.protocol.specs.declared.Message.{Message}
@@ -61,6 +63,15 @@ module _ (m : Mark) (g p : ℕ) where
       → l' ≡ splice l (entry_at m g p + o) vs → EntryMade m l l' g p f
   field-made l l' o vs f put fits wrote = λ N few few_groups hg hp e.
       wrote ∙ ap (λ (x : List ℕ). splice x (entry_at m g p + o) vs) e ∙ bytes-field m N few few_groups g p o vs (f (N.entry g p)) (put (N.entry g p)) fits hg hp
+
+  -- by a number that was put there, or a byte
+  pub number-made : (l l' : List ℕ) (o w v : ℕ) (f : Entry → Entry) → ((e : Entry) → splice (entry_bytes e) o (bytes w v) ≡ entry_bytes (f e)) → o + w ≤ entry_size
+      → l' ≡ splice l (entry_at m g p + o) (bytes w v) → EntryMade m l l' g p f
+  number-made l l' o w v f put fits wrote = field-made l l' o (bytes w v) f put (omega (arith, length-bytes w v)) wrote
+
+  pub byte-made : (l l' : List ℕ) (o v : ℕ) (f : Entry → Entry) → ((e : Entry) → splice (entry_bytes e) o (v ∷ []) ≡ entry_bytes (f e)) → o + 1 ≤ entry_size → v < 256
+      → l' ≡ splice l (entry_at m g p + o) (bytes 1 v) → EntryMade m l l' g p f
+  byte-made l l' o v f put fits small wrote = field-made l l' o (v ∷ []) f put fits (wrote ∙ ap (splice l (entry_at m g p + o)) (bytes-one v small))
 
   -- left as it is
   pub made-same : (l : List ℕ) → EntryMade m l l g p (λ e. e)

@@ -11,7 +11,7 @@ ghost use Rattle.net.specs.Encode.{entry_bytes, bytes_like};
 ghost use Rattle.access.specs.Inner.Nets.{IsNet, EntryMade};
 ghost use Rattle.access.specs.Inner.Fields.{FieldIn};
 
-use bits::number::{put8, put16, put32, wide};
+use bits::number::{Number, put};
 use layout::form::{Mark, in_stretch, stretch_at, stretch_size};
 use layout::offset::{CHANNEL_SIZE, channel_at, route_at};
 use protocol::{Entry, Message};
@@ -25,9 +25,9 @@ pub fn write_entry(stretch: &mut [u8], at: usize, e: Entry)
     stretch[at + 1] = e.tentative;
     stretch[at + 2] = e.member;
     stretch[at + 3] = 0;
-    put32(stretch, at + 4, e.clock);
-    put16(stretch, at + 8, e.children);
-    put16(stretch, at + 10, e.waiting);
+    put(stretch, at + 4, e.clock);
+    put(stretch, at + 8, e.children);
+    put(stretch, at + 10, e.waiting);
 }
 
 // Where a field of an entry is written: only the part of the net that starts at the group's entries, and ends with them, is lent on, and the
@@ -44,32 +44,19 @@ fn field_at(m: Mark, g: u8, p: u8, o: usize) -> Field
     requires { (g < most_groups) × (p < most_stations) × (o ≤ entry_size) }
     ensures { FieldIn m g p o result }
 {
-    let start = stretch_at(m, wide(g));
+    let start = stretch_at(m, usize::from(g));
     let end = start + stretch_size(m);
-    let at = in_stretch(m, wide(p)) + o;
+    let at = in_stretch(m, usize::from(p)) + o;
     Field { start, end, at }
 }
 
-// A byte.
-fn set_byte(net: &mut [u8], m: Mark, g: u8, p: u8, o: usize, v: u8)
-    requires { (length net.old ≡ net_length) × (g < most_groups) × (p < most_stations) × (o + 1 ≤ entry_size) }
-    ensures { net.new ≡ splice net.old (entry_at m g p + o) (v ∷ []) }
+// That field, with v in it.
+fn set_field<N: Number>(net: &mut [u8], m: Mark, g: u8, p: u8, o: usize, v: N)
+    requires { (length net.old ≡ net_length) × (g < most_groups) × (p < most_stations) × (o + N.width ≤ entry_size) }
+    ensures { net.new ≡ splice net.old (entry_at m g p + o) (bytes N.width (N.value v)) }
 {
-    let f = field_at(m, g, p, o);
-    let start = f.start;
-    let end = f.end;
-    put8(&mut net[start..end], f.at, v);
-}
-
-// A mask.
-fn set_mask(net: &mut [u8], m: Mark, g: u8, p: u8, o: usize, mask: u16)
-    requires { (length net.old ≡ net_length) × (g < most_groups) × (p < most_stations) × (o + 2 ≤ entry_size) }
-    ensures { net.new ≡ splice net.old (entry_at m g p + o) (bytes 2 mask) }
-{
-    let f = field_at(m, g, p, o);
-    let start = f.start;
-    let end = f.end;
-    put16(&mut net[start..end], f.at, mask);
+    let Field { start, end, at } = field_at(m, g, p, o);
+    put(&mut net[start..end], at, v);
 }
 
 // Another parent of station p in group g.
@@ -77,7 +64,7 @@ pub fn set_parent(net: &mut [u8], m: Mark, g: u8, p: u8, q: u8)
     requires { (length net.old ≡ net_length) × (g < most_groups) × (p < most_stations) }
     ensures { EntryMade m net.old net.new g p (λ e. with_parents e q e.tentative) }
 {
-    set_byte(net, m, g, p, 0, q);
+    set_field(net, m, g, p, 0, q);
 }
 
 // Another tentative parent.
@@ -85,7 +72,7 @@ pub fn set_tentative(net: &mut [u8], m: Mark, g: u8, p: u8, q: u8)
     requires { (length net.old ≡ net_length) × (g < most_groups) × (p < most_stations) }
     ensures { EntryMade m net.old net.new g p (λ e. with_parents e e.parent q) }
 {
-    set_byte(net, m, g, p, 1, q);
+    set_field(net, m, g, p, 1, q);
 }
 
 // The member flag.
@@ -93,7 +80,7 @@ pub fn set_member(net: &mut [u8], m: Mark, g: u8, p: u8, v: u8)
     requires { (length net.old ≡ net_length) × (g < most_groups) × (p < most_stations) }
     ensures { EntryMade m net.old net.new g p (λ e. with_member e v) }
 {
-    set_byte(net, m, g, p, 2, v);
+    set_field(net, m, g, p, 2, v);
 }
 
 // Another clock.
@@ -101,10 +88,7 @@ pub fn set_clock(net: &mut [u8], m: Mark, g: u8, p: u8, clock: u32)
     requires { (length net.old ≡ net_length) × (g < most_groups) × (p < most_stations) }
     ensures { EntryMade m net.old net.new g p (λ e. with_clock e clock) }
 {
-    let f = field_at(m, g, p, 4);
-    let start = f.start;
-    let end = f.end;
-    put32(&mut net[start..end], f.at, clock);
+    set_field(net, m, g, p, 4, clock);
 }
 
 // Other children.
@@ -112,7 +96,7 @@ pub fn set_children(net: &mut [u8], m: Mark, g: u8, p: u8, children: u16)
     requires { (length net.old ≡ net_length) × (g < most_groups) × (p < most_stations) }
     ensures { EntryMade m net.old net.new g p (λ e. with_children e children) }
 {
-    set_mask(net, m, g, p, 8, children);
+    set_field(net, m, g, p, 8, children);
 }
 
 // The station waits on these from now on.
@@ -120,7 +104,7 @@ pub fn set_waiting(net: &mut [u8], m: Mark, g: u8, p: u8, waiting: u16)
     requires { (length net.old ≡ net_length) × (g < most_groups) × (p < most_stations) }
     ensures { EntryMade m net.old net.new g p (λ e. with_waiting e waiting) }
 {
-    set_mask(net, m, g, p, 10, waiting);
+    set_field(net, m, g, p, 10, waiting);
 }
 
 // Another route from p towards d.
@@ -129,7 +113,7 @@ pub fn set_route(net: &mut [u8], p: u8, d: u8, q: u8)
     requires p_bound { (p < (view net.old).stations) × (d < (view net.old).stations) }
     ensures { net.new ≡ bytes_like net.old (set_route (view net.old) p d q) }
 {
-    let at = route_at(wide(p), wide(d));
+    let at = route_at(usize::from(p), usize::from(d));
     net[at] = q;
 }
 
@@ -139,8 +123,8 @@ pub fn take_at(net: &mut [u8], s: u8, d: u8, i: u8)
     requires s_bound { (s < (view net.old).stations) × (d < (view net.old).stations) × (i < length ((view net.old).channel s d)) }
     ensures { net.new ≡ bytes_like net.old (take_at (view net.old) s d i) }
 {
-    let at = channel_at(wide(s), wide(d));
-    channel::remove_at(&mut net[at..at + CHANNEL_SIZE], wide(i));
+    let at = channel_at(usize::from(s), usize::from(d));
+    channel::remove_at(&mut net[at..at + CHANNEL_SIZE], usize::from(i));
 }
 
 // A message goes out from s to d.
@@ -149,6 +133,6 @@ pub fn send(net: &mut [u8], s: u8, d: u8, m: Message)
     requires s_bound { (s < (view net.old).stations) × (d < (view net.old).stations) × (length ((view net.old).channel s d) < capacity) }
     ensures { net.new ≡ bytes_like net.old (send (view net.old) s d m) }
 {
-    let at = channel_at(wide(s), wide(d));
+    let at = channel_at(usize::from(s), usize::from(d));
     channel::push(&mut net[at..at + CHANNEL_SIZE], m);
 }

@@ -11,7 +11,7 @@ ghost use Rattle.channel.specs.Inner.Channels.{IsChannel};
 ghost use Rattle.net.specs.View.{view, entry_of};
 ghost use Rattle.access.specs.Inner.Nets.{IsNet};
 
-use bits::number::{get16, get32};
+use bits::number::get;
 use layout::form::Mark;
 use layout::offset::CHANNEL_SIZE;
 use protocol::{CAPACITY, Entry, Message, REPLY, REQUEST};
@@ -33,9 +33,9 @@ fn read_entry(s: &[u8], at: usize) -> Entry
         parent: s[at],
         tentative: s[at + 1],
         member: s[at + 2],
-        clock: get32(s, at + 4),
-        children: get16(s, at + 8),
-        waiting: get16(s, at + 10),
+        clock: get(s, at + 4),
+        children: get(s, at + 8),
+        waiting: get(s, at + 10),
     }
 }
 

@@ -2,14 +2,14 @@
 --     number_lt           a number of w bytes is below 256 ^ w
 --     number-bytes        decode of encode
 --     bytes-number        encode of decode
---     onto-append         a number of two widths is one number of both joined
 use mathlib.Core.Path.{◌≡◌, refl, sym, ap, ap₂, ◌∙◌}
-use mathlib.Core.List.{List, [], ◌∷◌, ◌++◌}
+use mathlib.Core.List.{List, [], ◌∷◌}
 use Prim.Native.Nat.{ℕ, zero, suc, ◌+◌, ◌*◌, ◌/◌, ◌%◌, ◌^◌, ◌<◌}
-use native.Mathlib.Nat.{pow-suc, mod-eq_of_lt, mod-one, mul-add-div_right, mul_comm}
+use native.Mathlib.Nat.{pow-suc, div-one, mod-eq_of_lt, mod-one, mul-add-div_right, mul_comm}
 use native.Mathlib.Omega.{arith}
 use lib.Arith.{digits_lt, digits_div, mod-mul}
 use lib.ListN.{length}
+use Rattle.std.specs.Int.{bytes_high_first}
 use Rattle.bits.specs.Numbers.{Bytes, onto, number, bytes}
 
 pow256-pos : (w : ℕ) → 0 < 256 ^ w
@@ -41,6 +41,17 @@ pub length-bytes : (w n : ℕ) → length (bytes w n) ≡ w
 unfolding bytes
 length-bytes zero n = refl
 length-bytes (suc w) n = ap suc (length-bytes w n)
+
+-- the bytes that the library gives, and the one byte of a byte
+pub bytes-high_first : (w n : ℕ) → bytes_high_first w n ≡ bytes w n
+unfolding bytes
+bytes-high_first zero n = refl
+bytes-high_first (suc zero) n = rw div-one
+bytes-high_first (suc (suc w)) n = ap (λ (l : List ℕ). n / 256 ^ suc w % 256 ∷ l) (bytes-high_first (suc w) n)
+
+pub bytes-one : (n : ℕ) → n < 256 → bytes 1 n ≡ n ∷ []
+unfolding bytes
+bytes-one n h = rw div-one (ap (λ (b : ℕ). b ∷ []) (mod-eq_of_lt h))
 
 pub bytes-Bytes : (w n : ℕ) → Bytes (bytes w n)
 unfolding bytes
@@ -77,9 +88,3 @@ bytes-number (b ∷ bs) h =
     (ap₂ ◌∷◌
     (ap (λ (x : ℕ). x % 256) (digits_div b (number_lt bs (λ i. h (suc i)))) ∙ mod-eq_of_lt (h 0))
     (bytes_high (length bs) b (number bs) ∙ bytes-number bs (λ i. h (suc i))))
-
--- ---- two widths
-pub onto-append : (a : ℕ) (xs ys : List ℕ) → onto a (xs ++ ys) ≡ onto (onto a xs) ys
-unfolding onto
-onto-append a [] ys = refl
-onto-append a (x ∷ xs) ys = onto-append (a * 256 + x) xs ys

@@ -7,23 +7,14 @@ pub fn put(out: &mut [u8], at: usize, s: &[u8]) -> usize
     requires { at + length s.now ≤ length out.old }
     ensures { Wrote out.old out.new at result s.now }
 {
-    let n = s.len();
-    let mut i = 0;
-    while i < n {
-        out[at + i] = s[i];
-        i += 1;
-    }
-    at + n
+    let end = at + s.len();
+    out[at..end].copy_from_slice(s);
+    end
 }
 
 // Every byte becomes v.
 pub fn fill(s: &mut [u8], v: u8)
     ensures { s.new ≡ replicate (length s.old) v }
 {
-    let n = s.len();
-    let mut i = 0;
-    while i < n {
-        s[i] = v;
-        i += 1;
-    }
+    s.fill(v);
 }

@@ -2,8 +2,6 @@
 ghost use Rattle.std.specs.Prelude.{◌≡◌, ◌≤◌, ◌<◌};
 ghost use Rattle.bits.specs.Masks as mask;
 
-use crate::number::wide;
-
 // Whether j, one of the sixteen, is in.
 pub fn has_at(m: u16, j: usize) -> bool
     requires { j < 16 }
@@ -16,7 +14,7 @@ pub fn has_at(m: u16, j: usize) -> bool
 pub fn has(m: u16, j: u8) -> bool
     ensures { result ≡ mask.has m j }
 {
-    if j < 16 { has_at(m, wide(j)) } else { false }
+    j < 16 && has_at(m, usize::from(j))
 }
 
 // With j.

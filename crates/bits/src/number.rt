@@ -1,5 +1,5 @@
-// Numbers of 1, 2 and 4 bytes at an offset of a slice.
-ghost use Rattle.std.specs.Prelude.{◌≡◌, [], ◌∷◌, ◌+◌, ◌*◌, ◌≤◌, ◌<◌, length};
+// Big-endian numbers of 1, 2 and 4 bytes at an offset of a slice.
+ghost use Rattle.std.specs.Prelude.{◌≡◌, ℕ, ◌+◌, ◌*◌, ◌≤◌, ◌<◌, length};
 ghost use Rattle.bits.specs.Numbers.{bytes};
 ghost use Rattle.bits.specs.Parts.{number_at, splice};
 
@@ -14,50 +14,89 @@ pub fn wide(x: u8) -> usize
 pub fn join8(a: u8, b: u8) -> u16
     ensures { result ≡ a * 256 + b }
 {
-    (a as u16) * 256 + (b as u16)
+    u16::from_be_bytes([a, b])
 }
 
-fn join16(a: u16, b: u16) -> u32
-    ensures { result ≡ a * 65536 + b }
-{
-    (a as u32) * 65536 + (b as u32)
+// What is written as so many bytes, the highest first.
+pub trait Number: Copy {
+    // How many.
+    ghost width: { ℕ };
+
+    // The number that it is.
+    ghost value: { Self → ℕ };
+
+    // The one that stands at `at`.
+    fn read(s: &[u8], at: usize) -> Self
+        requires { at + width ≤ length s.now }
+        ensures { value result ≡ number_at width s.now at };
+
+    // Its bytes, from `at` on.
+    fn write(self, s: &mut [u8], at: usize)
+        requires { at + width ≤ length s.old }
+        ensures { s.new ≡ splice s.old at (bytes width (value self)) };
 }
 
-pub fn get16(s: &[u8], at: usize) -> u16
-    requires { at + 2 ≤ length s.now }
-    ensures { result ≡ number_at 2 s.now at }
-{
-    join8(s[at], s[at + 1])
+impl Number for u8 {
+    ghost width = { 1 };
+
+    ghost value = { λ x. x };
+
+    fn read(s: &[u8], at: usize) -> u8 {
+        s[at]
+    }
+
+    fn write(self, s: &mut [u8], at: usize) {
+        s[at] = self;
+    }
 }
 
-pub fn get32(s: &[u8], at: usize) -> u32
-    requires { at + 4 ≤ length s.now }
-    ensures { result ≡ number_at 4 s.now at }
-{
-    join16(get16(s, at), get16(s, at + 2))
+impl Number for u16 {
+    ghost width = { 2 };
+
+    ghost value = { λ x. x };
+
+    fn read(s: &[u8], at: usize) -> u16 {
+        u16::from_be_bytes([s[at], s[at + 1]])
+    }
+
+    fn write(self, s: &mut [u8], at: usize) {
+        s[at..at + 2].copy_from_slice(&self.to_be_bytes());
+    }
 }
 
-pub fn put8(s: &mut [u8], at: usize, v: u8)
-    requires { at < length s.old }
-    ensures { s.new ≡ splice s.old at (v ∷ []) }
-{
-    s[at] = v;
+impl Number for u32 {
+    ghost width = { 4 };
+
+    ghost value = { λ x. x };
+
+    fn read(s: &[u8], at: usize) -> u32 {
+        u32::from_be_bytes([s[at], s[at + 1], s[at + 2], s[at + 3]])
+    }
+
+    fn write(self, s: &mut [u8], at: usize) {
+        s[at..at + 4].copy_from_slice(&self.to_be_bytes());
+    }
 }
 
-pub fn put16(s: &mut [u8], at: usize, v: u16)
-    requires { at + 2 ≤ length s.old }
-    ensures { s.new ≡ splice s.old at (bytes 2 v) }
+// The number that stands at `at`.
+pub fn get<N: Number>(s: &[u8], at: usize) -> N
+    requires { at + N.width ≤ length s.now }
+    ensures { N.value result ≡ number_at N.width s.now at }
 {
-    s[at] = (v / 256 % 256) as u8;
-    s[at + 1] = (v % 256) as u8;
+    N::read(s, at)
+}
+
+// The bytes of v, from `at` on.
+pub fn put<N: Number>(s: &mut [u8], at: usize, v: N)
+    requires { at + N.width ≤ length s.old }
+    ensures { s.new ≡ splice s.old at (bytes N.width (N.value v)) }
+{
+    v.write(s, at);
 }
 
 pub fn put32(s: &mut [u8], at: usize, v: u32)
     requires { at + 4 ≤ length s.old }
     ensures { s.new ≡ splice s.old at (bytes 4 v) }
 {
-    s[at] = (v / 16777216 % 256) as u8;
-    s[at + 1] = (v / 65536 % 256) as u8;
-    s[at + 2] = (v / 256 % 256) as u8;
-    s[at + 3] = (v % 256) as u8;
+    put(s, at, v);
 }

@@ -11,7 +11,6 @@ ghost use Rattle.channel.specs.Inner.Channels.{moved_up};
 ghost use Rattle.channel.specs.Messages.{message_of, message_bytes, messages_of, channel_bytes};
 ghost use Rattle.channel.specs.Inner.Channels.{IsChannel};
 
-use bits::copy::fill;
 use bits::number::join8;
 use layout::offset::MESSAGE_SIZE;
 use protocol::Message;
@@ -31,7 +30,7 @@ fn put_message(s: &mut [u8], m: Message)
     s[0] = m.kind;
     s[1] = m.group;
     s[2] = m.connected;
-    bits::number::put32(s, 3, m.clock);
+    bits::number::put(s, 3, m.clock);
 }
 
 fn get_message(s: &[u8]) -> Message
@@ -42,7 +41,7 @@ fn get_message(s: &[u8]) -> Message
         kind: s[0],
         group: s[1],
         connected: s[2],
-        clock: bits::number::get32(s, 3),
+        clock: bits::number::get(s, 3),
     }
 }
 
@@ -62,13 +61,11 @@ fn move_up(s: &mut [u8], n: usize)
     ensures { s.new ≡ moved_up message_size s.old }
 {
     let last = n - 1;
-    let mut j = 0;
-    while j < last {
+    for j in 0..last {
         move_one(s, j * MESSAGE_SIZE);
-        j += 1;
     }
     let at = last * MESSAGE_SIZE;
-    fill(&mut s[at..at + MESSAGE_SIZE], 0);
+    s[at..at + MESSAGE_SIZE].fill(0);
 }
 
 // Removes the i-th message: the later ones present move up, and the freed slot is cleared. Only the slots from i to the last in use are
@@ -79,7 +76,7 @@ pub fn remove_at(ch: &mut [u8], i: usize)
     ensures { ch.new ≡ channel_bytes (remove_at i (messages_of ch.old)) }
 {
     let n = ch[0];
-    let k = n as usize;
+    let k = usize::from(n);
     let at = 1 + i * MESSAGE_SIZE;
     let end = 1 + k * MESSAGE_SIZE;
     move_up(&mut ch[at..end], k - i);
@@ -93,7 +90,7 @@ pub fn push(ch: &mut [u8], m: Message)
     ensures { ch.new ≡ channel_bytes (messages_of ch.old ++ (m ∷ [])) }
 {
     let n = ch[0];
-    let at = 1 + (n as usize) * MESSAGE_SIZE;
+    let at = 1 + usize::from(n) * MESSAGE_SIZE;
     put_message(&mut ch[at..at + MESSAGE_SIZE], m);
     ch[0] = n + 1;
 }
@@ -120,13 +117,5 @@ pub fn none_of(ch: &[u8], kind: u8, group: u8) -> bool
     requires { IsChannel ch.now }
     ensures { result ≡ eqb (count_of kind group (messages_of ch.now)) 0 }
 {
-    let n = ch[0] as usize;
-    let mut i = 0;
-    while i < n {
-        if is_of(message_at(ch, i), kind, group) {
-            return false;
-        }
-        i += 1;
-    }
-    true
+    (0..usize::from(ch[0])).all(|i| !is_of(message_at(ch, i), kind, group))
 }

@@ -1,6 +1,7 @@
 -- Laws of the bounded tests of bytes.
 --     zeros-at, zeros_of                            what the test of a stretch says, and when it passes
---     table_done, table_at, table-rest, table_of    a loop over a table ends, what the test of a table says, and when it passes
+--     zeros_fold, same_fold                         what the code of such a test does
+--     table_at, table-rest, table_of                what the test of a table says, and when it passes
 --     grid-rest, grid-of                            the same of a table of tables
 --     cell-used, cell_free                          the test of a cell that is used, and of one that is not
 --     cells_at, cells_rest, cells_of                what the test of a grid says, and when it passes
@@ -9,14 +10,18 @@ use mathlib.Core.List.{List}
 use mathlib.Core.Logic.{◌⊎◌, inl, inr, ⊎_elim}
 use mathlib.Core.Bool.{Bool, true, false, ◌&&◌}
 use Prim.Native.Nat.{ℕ, suc, ◌+◌, ◌-◌, ◌*◌, ◌/◌, ◌%◌, ◌≤◌, ◌<◌}
-use native.Mathlib.Nat.{add-sub_of_le, mul-suc, mul_comm, mul-le-mul_left, div-add-mod', div-lt_iff_lt-mul, mod-lt}
+use native.Mathlib.Nat.{add-sub_cancel_left, add-sub_of_le, mul-suc, mul_comm, mul-le-mul_left, div-add-mod', div-lt_iff_lt-mul, mod-lt}
 use native.Mathlib.Omega.{arith}
 use lib.Dec.{eqb, ltb}
 use lib.ListN.{length, get_or-eq_default}
 use borrow.Author.Tests.{eqb-true, eq-eqb, ltb-true, lt-ltb, le-ltb}
 use Rattle.bits.proofs.Cases.{by-lt, and_l, and_r, and_both}
 use Rattle.bits.specs.Below.{all_below}
-use Rattle.bits.proofs.Below.{all_done, all-at, all_of}
+use Rattle.bits.proofs.Below.{all_done, all-at, all_of, all_fold}
+use Rattle.bits.specs.Parts.{part}
+use Rattle.bits.proofs.Parts.{lent, length_part, get_or-part, part-lent}
+use Rattle.std.specs.List.{fold, zip}
+use Rattle.std.proofs.lemmas.Slice.Zip.{length-zip, get_or-zip}
 use Rattle.layout.specs.Layout.{byte}
 use Rattle.layout.specs.Bounded.{all_bytes, zeros, same, table, used, cell_pass, grid_pass}
 
@@ -38,6 +43,24 @@ pub same_of : (l : List ℕ) (a b n : ℕ) → ((i : ℕ) → i < n → byte l (
 unfolding same
 same_of l a b n f = all_of _ n (λ i h. eq-eqb _ _ (f i h))
 
+-- what the code does: it goes over the bytes of a stretch, or of two side by side
+pub zeros_fold : (l : List ℕ) (a e : ℕ) → a ≤ e → e ≤ length l → fold (λ ok x. ok && eqb x 0) true (lent a (e - a) l) ≡ zeros l a e
+unfolding zeros
+zeros_fold l a e h k =
+    ap (fold (λ ok x. ok && eqb x 0) true) (part-lent (e - a) l a (omega arith))
+    ∙ all_fold (λ x. eqb x 0) 0 (part (e - a) l a) (e - a) _ (length_part (e - a) l a)
+    (λ i m. ap (λ (x : ℕ). eqb x 0) (get_or-part (e - a) l a i m)) true
+
+pub same_fold : (l : List ℕ) (a b n : ℕ) → a + n ≤ length l → b + n ≤ length l
+    → fold (λ ok (p : ℕ × ℕ). ok && eqb p.0 p.1) true (zip (lent a (a + n - a) l) (lent b (b + n - b) l)) ≡ same l a b n
+unfolding same
+same_fold l a b n h k =
+    rw (add-sub_cancel_left a n, add-sub_cancel_left b n, part-lent n l a h, part-lent n l b k)
+    (all_fold (λ (p : ℕ × ℕ). eqb p.0 p.1) (0, 0) (zip (part n l a) (part n l b)) n _ (length-zip (part n l a) (part n l b) ∙ omega (arith, length_part n l a, length_part n l b))
+    (λ i m. let x : i < length (part n l a) = omega (arith, length_part n l a) in
+    let y : i < length (part n l b) = omega (arith, length_part n l b) in
+    ap (λ (p : ℕ × ℕ). eqb p.0 p.1) (get_or-zip (part n l a) (part n l b) i (0, 0) x y) ∙ ap₂ eqb (get_or-part n l a i m) (get_or-part n l b i m)) true)
+
 pub bytes_of : (l : List ℕ) → ((i : ℕ) → byte l i < 256) → all_bytes l ≡ true
 unfolding all_bytes
 bytes_of l h = all_of _ (length l) (λ i _. lt-ltb _ _ (h i))
@@ -49,12 +72,6 @@ bytes-at l e i = by-lt i (length l)
     (λ h. let z : byte l i ≡ 0 = get_or-eq_default l 0 h in omega arith)
 
 -- ---- tables
--- the end of a loop over the used records, with the test of the others
-pub table_done : (l : List ℕ) (at size most n : ℕ) (P : ℕ → Bool) {i : ℕ} {ok z : Bool} → i ≤ n → n ≤ i → ok ≡ all_below i P
-    → z ≡ zeros l (at + size * n) (at + size * most) → (ok && z) ≡ table l at size most n P
-unfolding table
-table_done l at size most n P h k e f = ap₂ ◌&&◌ (all_done P h k e) f
-
 module _ (l : List ℕ) (at size most n : ℕ) (P : ℕ → Bool) where
   pub table_at : table l at size most n P ≡ true → (k : ℕ) → k < n → P k ≡ true
   unfolding table

@@ -8,20 +8,17 @@ use crate::offset::{ENTRIES_AT, ENTRY_SIZE, GROUP_ENTRIES_SIZE, STATION_ENTRIES_
 use protocol::MOST_STATIONS;
 
 // The saved form has the entries by group, then station; the working form by station, then group.
-#[derive(Clone, Copy)]
+#[derive(Clone, Copy, PartialEq, Eq)]
 pub enum Mark {
-    Saved,
-    Working,
+    Saved = 0,
+    Working = 1,
 }
 
 // Byte 7 of a net in this form.
 pub fn mark_byte(m: Mark) -> u8
     ensures { result ≡ mark_byte m }
 {
-    match m {
-        Mark::Saved => 0,
-        Mark::Working => 1,
-    }
+    m as u8
 }
 
 // The form that byte 7 says.

@@ -43,5 +43,5 @@ pub fn neighbours(s: &[u8], p: usize) -> u16
     requires { (plan_length ≤ length s.now) × (p < most_stations) }
     ensures { result ≡ front.neighbours s.now p }
 {
-    bits::number::get16(s, offset::mask_at(p))
+    bits::number::get(s, offset::mask_at(p))
 }

@@ -7,12 +7,7 @@ pub fn zeros(s: &[u8], a: usize, e: usize) -> bool
     requires { (a ≤ e) × (e ≤ length s.now) }
     ensures { result ≡ zeros s.now a e }
 {
-    let n = e - a;
-    let mut ok = true;
-    for i in 0..n {
-        ok = ok & (s[a + i] == 0);
-    }
-    ok
+    s[a..e].iter().fold(true, |ok, b| ok & (*b == 0))
 }
 
 // Whether the n bytes from a and from b are the same.
@@ -20,9 +15,6 @@ pub fn same(s: &[u8], a: usize, b: usize, n: usize) -> bool
     requires { (a + n ≤ length s.now) × (b + n ≤ length s.now) }
     ensures { result ≡ same s.now a b n }
 {
-    let mut ok = true;
-    for i in 0..n {
-        ok = ok & (s[a + i] == s[b + i]);
-    }
-    ok
+    let pairs = s[a..a + n].iter().zip(&s[b..b + n]);
+    pairs.fold(true, |ok, (x, y)| ok & (*x == *y))
 }

@@ -22,11 +22,7 @@ fn all_both_ways(s: &[u8], n: usize, p: usize) -> bool
     requires { (plan_length ≤ length s.now) × (n ≤ most_stations) × (p < most_stations) }
     ensures { result ≡ all_below n (planned.both_ways s.now p) }
 {
-    let mut ok = true;
-    for q in 0..n {
-        ok = ok & both_ways(s, p, q);
-    }
-    ok
+    (0..n).all(|q| both_ways(s, p, q))
 }
 
 fn station_cabled(s: &[u8], n: usize, p: usize) -> bool
@@ -41,9 +37,5 @@ pub fn cables_shaped(s: &[u8], n: usize) -> bool
     requires { (plan_length ≤ length s.now) × (n ≤ most_stations) }
     ensures { result ≡ table s.now masks_at mask_size most_stations n (planned.station_cabled s.now n) }
 {
-    let mut ok = true;
-    for p in 0..n {
-        ok = ok & station_cabled(s, n, p);
-    }
-    ok & zeros(s, MASKS_AT + MASK_SIZE * n, ROUTES_AT)
+    (0..n).all(|p| station_cabled(s, n, p)) & zeros(s, MASKS_AT + MASK_SIZE * n, ROUTES_AT)
 }

@@ -3,7 +3,6 @@ ghost use Rattle.std.specs.Prelude.{◌≡◌, ◌≤◌, length};
 ghost use Rattle.layout.specs.Layout.{plan_length};
 ghost use Rattle.plan.specs.Planned.{of_version1, planned, plan_shaped};
 
-use bits::number::wide;
 use layout::front::{groups, stations};
 use layout::offset::PLAN_LENGTH;
 
@@ -13,8 +12,8 @@ pub fn planned(s: &[u8], size: u32, byte7: u8) -> bool
     ensures { result ≡ planned s.now (of_version1 size byte7) }
 {
     if crate::groups::header_shaped(s, size, byte7) {
-        let n = wide(stations(s));
-        let g = wide(groups(s));
+        let n = usize::from(stations(s));
+        let g = usize::from(groups(s));
         crate::groups::groups_shaped(s, n, g)
             & crate::groups::names_distinct(s, g)
             & crate::cables::cables_shaped(s, n)

@@ -5,7 +5,6 @@ ghost use Rattle.layout.specs.Layout.{message_at, channel_size, message_size, ne
 ghost use Rattle.layout.specs.Bounded.{table};
 ghost use Rattle.shape.specs.Shape.{message_shaped, channel_shaped, channel_row_shaped, channels_shaped};
 
-use bits::number::wide;
 use layout::front::neighbours;
 use layout::offset::{
     CHANNEL_ROW_SIZE, CHANNEL_SIZE, CHANNELS_AT, MESSAGE_SIZE, NET_LENGTH, channel_at,
@@ -18,7 +17,7 @@ fn message_shaped(s: &[u8], at: usize, g: usize) -> bool
     ensures { result ≡ message_shaped g s.now at }
 {
     ((REQUEST <= s[at]) & (s[at] <= REPLY))
-        & (wide(s[at + 1]) < g)
+        & (usize::from(s[at + 1]) < g)
         & (s[at + 2] <= 1)
         & (!(s[at] == REQUEST) | zeros(s, at + 2, at + MESSAGE_SIZE))
 }
@@ -28,11 +27,8 @@ fn messages_shaped(s: &[u8], at: usize, g: usize, m: usize) -> bool
     requires { (at + channel_size ≤ length s.now) × (m ≤ capacity) }
     ensures { result ≡ table s.now (at + 1) message_size capacity m (λ i. message_shaped g s.now (message_at at i)) }
 {
-    let mut ok = true;
-    for i in 0..m {
-        ok = ok & message_shaped(s, at + 1 + MESSAGE_SIZE * i, g);
-    }
-    ok & zeros(s, at + 1 + MESSAGE_SIZE * m, at + CHANNEL_SIZE)
+    (0..m).all(|i| message_shaped(s, at + 1 + MESSAGE_SIZE * i, g))
+        & zeros(s, at + 1 + MESSAGE_SIZE * m, at + CHANNEL_SIZE)
 }
 
 // The channel at `at`, to station d from one whose neighbours are m.
@@ -48,7 +44,7 @@ fn channel_shaped(s: &[u8], at: usize, m: u16, g: usize, d: usize) -> bool
     if count == 0 {
         return zeros(s, at + 1, at + CHANNEL_SIZE);
     }
-    bits::mask::has_at(m, d) & messages_shaped(s, at, g, wide(count))
+    bits::mask::has_at(m, d) & messages_shaped(s, at, g, usize::from(count))
 }
 
 fn channel_row_shaped(s: &[u8], n: usize, g: usize, p: usize) -> bool
@@ -56,21 +52,15 @@ fn channel_row_shaped(s: &[u8], n: usize, g: usize, p: usize) -> bool
     ensures { result ≡ channel_row_shaped s.now n g p }
 {
     let m = neighbours(s, p);
-    let mut ok = true;
-    for d in 0..n {
-        ok = ok & channel_shaped(s, channel_at(p, d), m, g, d);
-    }
     let row = CHANNELS_AT + CHANNEL_ROW_SIZE * p;
-    ok & zeros(s, row + CHANNEL_SIZE * n, row + CHANNEL_ROW_SIZE)
+    (0..n).all(|d| channel_shaped(s, channel_at(p, d), m, g, d))
+        & zeros(s, row + CHANNEL_SIZE * n, row + CHANNEL_ROW_SIZE)
 }
 
 pub fn channels_shaped(s: &[u8], n: usize, g: usize) -> bool
     requires { (net_length ≤ length s.now) × (n ≤ most_stations) }
     ensures { result ≡ channels_shaped s.now n g }
 {
-    let mut ok = true;
-    for p in 0..n {
-        ok = ok & channel_row_shaped(s, n, g, p);
-    }
-    ok & zeros(s, CHANNELS_AT + CHANNEL_ROW_SIZE * n, NET_LENGTH)
+    (0..n).all(|p| channel_row_shaped(s, n, g, p))
+        & zeros(s, CHANNELS_AT + CHANNEL_ROW_SIZE * n, NET_LENGTH)
 }

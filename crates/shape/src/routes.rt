@@ -29,21 +29,14 @@ fn route_row_shaped(s: &[u8], n: usize, p: usize) -> bool
     ensures { result ≡ route_row_shaped s.now n p }
 {
     let m = neighbours(s, p);
-    let mut ok = true;
-    for d in 0..n {
-        ok = ok & route_shaped(s, route_at(p, d), m, p, d);
-    }
     let row = ROUTES_AT + ROUTE_ROW_SIZE * p;
-    ok & zeros(s, row + n, row + ROUTE_ROW_SIZE)
+    (0..n).all(|d| route_shaped(s, route_at(p, d), m, p, d))
+        & zeros(s, row + n, row + ROUTE_ROW_SIZE)
 }
 
 pub fn routes_shaped(s: &[u8], n: usize) -> bool
     requires { (net_length ≤ length s.now) × (n ≤ most_stations) }
     ensures { result ≡ routes_shaped s.now n }
 {
-    let mut ok = true;
-    for p in 0..n {
-        ok = ok & route_row_shaped(s, n, p);
-    }
-    ok & zeros(s, ROUTES_AT + ROUTE_ROW_SIZE * n, ENTRIES_AT)
+    (0..n).all(|p| route_row_shaped(s, n, p)) & zeros(s, ROUTES_AT + ROUTE_ROW_SIZE * n, ENTRIES_AT)
 }

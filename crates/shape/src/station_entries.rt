@@ -6,7 +6,7 @@ ghost use Rattle.layout.specs.Layout.{entry_size, net_length};
 ghost use Rattle.shape.specs.Shape.{parents_shaped, member_and_masks_shaped, entry_shaped, entry_cell_shaped, entries_shaped};
 
 use crate::routes::nil_or;
-use bits::number::{get16, wide};
+use bits::number::get;
 use layout::form::{Mark, entry_at};
 use layout::front::{neighbours, root};
 use layout::offset::ENTRY_SIZE;
@@ -28,8 +28,8 @@ fn member_and_masks_shaped(s: &[u8], at: usize, m: u16) -> bool
 {
     (s[at + 2] <= 1)
         & (s[at + 3] == 0)
-        & bits::mask::within(get16(s, at + 8), m)
-        & bits::mask::within(get16(s, at + 10), m)
+        & bits::mask::within(get(s, at + 8), m)
+        & bits::mask::within(get(s, at + 10), m)
 }
 
 fn entry_shaped(s: &[u8], at: usize, m: u16, r: usize, p: usize) -> bool
@@ -46,7 +46,7 @@ fn entry_cell_shaped(s: &[u8], m: Mark, n: usize, g: usize, k: usize, p: usize) 
 {
     let at = entry_at(m, k, p);
     if (k < g) & (p < n) {
-        entry_shaped(s, at, neighbours(s, p), wide(root(s, k)), p)
+        entry_shaped(s, at, neighbours(s, p), usize::from(root(s, k)), p)
     } else {
         zeros(s, at, at + ENTRY_SIZE)
     }
@@ -56,20 +56,12 @@ fn group_entries_shaped(s: &[u8], m: Mark, n: usize, g: usize, k: usize) -> bool
     requires { (net_length ≤ length s.now) × (k < most_groups) }
     ensures { result ≡ all_below most_stations (entry_cell_shaped s.now n m g k) }
 {
-    let mut ok = true;
-    for p in 0..MOST_STATIONS {
-        ok = ok & entry_cell_shaped(s, m, n, g, k, p);
-    }
-    ok
+    (0..MOST_STATIONS).all(|p| entry_cell_shaped(s, m, n, g, k, p))
 }
 
 pub fn entries_shaped(s: &[u8], m: Mark, n: usize, g: usize) -> bool
     requires { net_length ≤ length s.now }
     ensures { result ≡ entries_shaped s.now n m g }
 {
-    let mut ok = true;
-    for k in 0..MOST_GROUPS {
-        ok = ok & group_entries_shaped(s, m, n, g, k);
-    }
-    ok
+    (0..MOST_GROUPS).all(|k| group_entries_shaped(s, m, n, g, k))
 }

@@ -3,7 +3,6 @@ ghost use Rattle.std.specs.Prelude.{◌≡◌, length};
 ghost use Rattle.layout.specs.Layout.{net_length};
 ghost use Rattle.shape.specs.Shape.{laid_out, shaped_as, shaped};
 
-use bits::number::wide;
 use layout::form::{Mark, mark_byte};
 use layout::front::{groups, stations};
 use layout::offset::NET_LENGTH;
@@ -13,8 +12,8 @@ fn laid_out(s: &[u8], m: Mark) -> bool
     ensures { result ≡ laid_out m s.now }
 {
     if plan::whole::planned(s, NET_LENGTH as u32, mark_byte(m)) {
-        let n = wide(stations(s));
-        let g = wide(groups(s));
+        let n = usize::from(stations(s));
+        let g = usize::from(groups(s));
         crate::routes::routes_shaped(s, n)
             & crate::station_entries::entries_shaped(s, m, n, g)
             & crate::channels::channels_shaped(s, n, g)
