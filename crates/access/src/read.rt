@@ -13,6 +13,7 @@ ghost use Rattle.access.specs.Inner.Nets.{IsNet};
 
 use bits::number::get;
 use layout::form::Mark;
+use layout::front::Front;
 use layout::offset::CHANNEL_SIZE;
 use protocol::{CAPACITY, Entry, Message, REPLY, REQUEST};
 
@@ -57,7 +58,7 @@ impl<'a> NetBytes<'a> {
     {
         NetBytes {
             bytes,
-            mark: layout::form::mark_of(bytes),
+            mark: layout::form::mark_of(&Front { bytes }),
         }
     }
 
@@ -65,14 +66,14 @@ impl<'a> NetBytes<'a> {
     pub fn stations(&self) -> u8
         ensures { result ≡ (net_of self.now).stations }
     {
-        layout::front::stations(self.bytes)
+        Front { bytes: self.bytes }.stations()
     }
 
     // How many groups.
     pub fn groups(&self) -> u8
         ensures { result ≡ (net_of self.now).groups }
     {
-        layout::front::groups(self.bytes)
+        Front { bytes: self.bytes }.groups()
     }
 
     // Whether g is one of the groups.
@@ -93,8 +94,8 @@ impl<'a> NetBytes<'a> {
     pub fn near(&self, p: u8, q: u8) -> bool
         ensures { result ≡ near? (net_of self.now) p q }
     {
-        self.is_station(p)
-            && bits::mask::has(layout::front::neighbours(self.bytes, usize::from(p)), q)
+        let front = Front { bytes: self.bytes };
+        self.is_station(p) && bits::mask::has(front.neighbours(usize::from(p)), q)
     }
 
     // The name of group g.
@@ -102,8 +103,10 @@ impl<'a> NetBytes<'a> {
         requires { g < (net_of self.now).groups }
         ensures { (result.now ≡ (net_of self.now).name g) × (length result.now ≤ longest_name) }
     {
-        let at = layout::offset::group_at(usize::from(g)) + 1;
-        &self.bytes[at..at + usize::from(layout::front::name_length(self.bytes, usize::from(g)))]
+        let g = usize::from(g);
+        let at = layout::offset::group_at(g) + 1;
+        let n = Front { bytes: self.bytes }.name_length(g);
+        &self.bytes[at..at + usize::from(n)]
     }
 
     // The root of group g.
@@ -111,7 +114,7 @@ impl<'a> NetBytes<'a> {
         requires { g < (net_of self.now).groups }
         ensures { (result ≡ (net_of self.now).root g) × (result < (net_of self.now).stations) }
     {
-        layout::front::root(self.bytes, usize::from(g))
+        Front { bytes: self.bytes }.root(usize::from(g))
     }
 
     // The route from p towards d.

@@ -4,6 +4,7 @@ ghost use Rattle.protocol.specs.Net.{most_groups, most_stations};
 ghost use Rattle.layout.specs.Layout.{plan_length, entry_size, channels_at};
 ghost use Rattle.layout.specs.Marks.{mark_byte, mark_of, by_group, by_station, stretch_at, stretch_size, in_stretch, entry_at};
 
+use crate::front::Front;
 use crate::offset::{ENTRIES_AT, ENTRY_SIZE, GROUP_ENTRIES_SIZE, STATION_ENTRIES_SIZE};
 use protocol::MOST_STATIONS;
 
@@ -22,11 +23,10 @@ pub fn mark_byte(m: Mark) -> u8
 }
 
 // The form that byte 7 says.
-pub fn mark_of(s: &[u8]) -> Mark
-    requires { plan_length ≤ length s.now }
-    ensures { result ≡ mark_of s.now }
+pub fn mark_of(front: &Front) -> Mark
+    ensures { result ≡ mark_of front.now.bytes.now }
 {
-    if s[7] == 1 {
+    if front.bytes[7] == 1 {
         Mark::Working
     } else {
         Mark::Saved

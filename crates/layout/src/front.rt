@@ -6,42 +6,49 @@ ghost use Rattle.layout.specs.Layout.{plan_length};
 
 use crate::offset;
 
-// How many stations there are.
-pub fn stations(s: &[u8]) -> u8
-    requires { plan_length ≤ length s.now }
-    ensures { result ≡ front.stations s.now }
-{
-    s[5]
+// Bytes that are long enough for one.
+#[derive(Clone, Copy)]
+pub struct Front<'a> {
+    pub bytes: &'a [u8],
+    ghost long: { plan_length ≤ length bytes.now },
 }
 
-// How many groups.
-pub fn groups(s: &[u8]) -> u8
-    requires { plan_length ≤ length s.now }
-    ensures { result ≡ front.groups s.now }
-{
-    s[6]
-}
+impl Front<'_> {
+    // How many stations there are.
+    pub fn stations(&self) -> u8
+        ensures { result ≡ front.stations self.now.bytes.now }
+    {
+        self.bytes[5]
+    }
 
-// How many bytes the name of group g has.
-pub fn name_length(s: &[u8], g: usize) -> u8
-    requires { (plan_length ≤ length s.now) × (g < most_groups) }
-    ensures { result ≡ front.name_length s.now g }
-{
-    s[offset::group_at(g)]
-}
+    // How many groups.
+    pub fn groups(&self) -> u8
+        ensures { result ≡ front.groups self.now.bytes.now }
+    {
+        self.bytes[6]
+    }
 
-// The root of group g.
-pub fn root(s: &[u8], g: usize) -> u8
-    requires { (plan_length ≤ length s.now) × (g < most_groups) }
-    ensures { result ≡ front.root s.now g }
-{
-    s[offset::group_at(g) + offset::NAME_SIZE]
-}
+    // How many bytes the name of group g has.
+    pub fn name_length(&self, g: usize) -> u8
+        requires { g < most_groups }
+        ensures { result ≡ front.name_length self.now.bytes.now g }
+    {
+        self.bytes[offset::group_at(g)]
+    }
 
-// The neighbours of station p.
-pub fn neighbours(s: &[u8], p: usize) -> u16
-    requires { (plan_length ≤ length s.now) × (p < most_stations) }
-    ensures { result ≡ front.neighbours s.now p }
-{
-    bits::number::get(s, offset::mask_at(p))
+    // The root of group g.
+    pub fn root(&self, g: usize) -> u8
+        requires { g < most_groups }
+        ensures { result ≡ front.root self.now.bytes.now g }
+    {
+        self.bytes[offset::group_at(g) + offset::NAME_SIZE]
+    }
+
+    // The neighbours of station p.
+    pub fn neighbours(&self, p: usize) -> u16
+        requires { p < most_stations }
+        ensures { result ≡ front.neighbours self.now.bytes.now p }
+    {
+        bits::number::get(self.bytes, offset::mask_at(p))
+    }
 }

@@ -6,36 +6,36 @@ ghost use Rattle.layout.specs.Bounded.{table};
 ghost use Rattle.layout.specs.Layout.{plan_length, masks_at, mask_size};
 ghost use Rattle.plan.specs.Planned as planned;
 
-use layout::front::neighbours;
+use layout::front::Front;
 use layout::offset::{MASK_SIZE, MASKS_AT, ROUTES_AT};
 use layout::stretch::zeros;
 
 // Whether q has p for a neighbour if p has q.
-fn both_ways(s: &[u8], p: usize, q: usize) -> bool
-    requires { (plan_length ≤ length s.now) × (p < most_stations) × (q < most_stations) }
-    ensures { result ≡ planned.both_ways s.now p q }
+fn both_ways(front: &Front, p: usize, q: usize) -> bool
+    requires { (p < most_stations) × (q < most_stations) }
+    ensures { result ≡ planned.both_ways front.now.bytes.now p q }
 {
-    !bits::mask::has_at(neighbours(s, p), q) | bits::mask::has_at(neighbours(s, q), p)
+    !bits::mask::has_at(front.neighbours(p), q) | bits::mask::has_at(front.neighbours(q), p)
 }
 
-fn all_both_ways(s: &[u8], n: usize, p: usize) -> bool
-    requires { (plan_length ≤ length s.now) × (n ≤ most_stations) × (p < most_stations) }
-    ensures { result ≡ all_below n (planned.both_ways s.now p) }
+fn all_both_ways(front: &Front, n: usize, p: usize) -> bool
+    requires { (n ≤ most_stations) × (p < most_stations) }
+    ensures { result ≡ all_below n (planned.both_ways front.now.bytes.now p) }
 {
-    (0..n).all(|q| both_ways(s, p, q))
+    (0..n).all(|q| both_ways(front, p, q))
 }
 
-fn station_cabled(s: &[u8], n: usize, p: usize) -> bool
-    requires { (plan_length ≤ length s.now) × (n ≤ most_stations) × (p < most_stations) }
-    ensures { result ≡ planned.station_cabled s.now n p }
+fn station_cabled(front: &Front, n: usize, p: usize) -> bool
+    requires { (n ≤ most_stations) × (p < most_stations) }
+    ensures { result ≡ planned.station_cabled front.now.bytes.now n p }
 {
-    let m = neighbours(s, p);
-    bits::mask::below(m, n) & !bits::mask::has_at(m, p) & all_both_ways(s, n, p)
+    let m = front.neighbours(p);
+    bits::mask::below(m, n) & !bits::mask::has_at(m, p) & all_both_ways(front, n, p)
 }
 
-pub fn cables_shaped(s: &[u8], n: usize) -> bool
-    requires { (plan_length ≤ length s.now) × (n ≤ most_stations) }
-    ensures { result ≡ table s.now masks_at mask_size most_stations n (planned.station_cabled s.now n) }
+pub fn cables_shaped(front: &Front, n: usize) -> bool
+    requires { n ≤ most_stations }
+    ensures { result ≡ table front.now.bytes.now masks_at mask_size most_stations n (planned.station_cabled front.now.bytes.now n) }
 {
-    (0..n).all(|p| station_cabled(s, n, p)) & zeros(s, MASKS_AT + MASK_SIZE * n, ROUTES_AT)
+    (0..n).all(|p| station_cabled(front, n, p)) & zeros(front.bytes, MASKS_AT + MASK_SIZE * n, ROUTES_AT)
 }

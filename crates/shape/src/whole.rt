@@ -4,19 +4,19 @@ ghost use Rattle.layout.specs.Layout.{net_length};
 ghost use Rattle.shape.specs.Shape.{laid_out, shaped_as, shaped};
 
 use layout::form::{Mark, mark_byte};
-use layout::front::{groups, stations};
+use layout::front::Front;
 use layout::offset::NET_LENGTH;
 
-fn laid_out(s: &[u8], m: Mark) -> bool
-    requires { length s.now ≡ net_length }
-    ensures { result ≡ laid_out m s.now }
+fn laid_out(net: &[u8; NET_LENGTH], m: Mark) -> bool
+    ensures { result ≡ laid_out m net.now }
 {
-    if plan::whole::planned(s, NET_LENGTH as u32, mark_byte(m)) {
-        let n = usize::from(stations(s));
-        let g = usize::from(groups(s));
-        crate::routes::routes_shaped(s, n)
-            & crate::station_entries::entries_shaped(s, m, n, g)
-            & crate::channels::channels_shaped(s, n, g)
+    let front = Front { bytes: net };
+    if plan::whole::planned(&front, NET_LENGTH as u32, mark_byte(m)) {
+        let n = usize::from(front.stations());
+        let g = usize::from(front.groups());
+        crate::routes::routes_shaped(net, n)
+            & crate::station_entries::entries_shaped(net, m, n, g)
+            & crate::channels::channels_shaped(net, n, g)
     } else {
         false
     }
@@ -26,10 +26,10 @@ fn laid_out(s: &[u8], m: Mark) -> bool
 pub fn shaped_as(s: &[u8], m: Mark) -> bool
     ensures { result ≡ shaped_as m s.now }
 {
-    if s.len() != NET_LENGTH {
-        return false;
+    match s.as_array() {
+        Some(net) => laid_out(net, m),
+        None => false,
     }
-    laid_out(s, m)
 }
 
 // In the saved form.

@@ -6,4 +6,4 @@ use Rattle.plan.proofs.cables.cables_shaped.Goals as goal
 
 pub returns : goal.returns
 unfolding table
-returns c = let a = c.args in ap₂ ◌&&◌ (all_is _ (station_cabled a.s.now a.n) _ a.n (λ i b f' k. search rules) _ _ refl _ c.all.ensures.ran) c.zeros.ensures
+returns c = let a = c.args in ap₂ ◌&&◌ (all_is _ (station_cabled a.front.now.bytes.now a.n) _ a.n (λ i b f' k. search rules) _ _ refl _ c.all.ensures.ran) c.zeros.ensures

@@ -13,16 +13,16 @@ plan-is m l e f = f ∙ ap (λ (b : ℕ). planned l (of_version1 net_length b)) 
 
 pub routes_shaped-requires : goal.routes_shaped-requires
 routes_shaped-requires c =
-    omega (arith, planned-few c.args.s.now _ (sym (plan-is c.args.m c.args.s.now c.mark_byte.ensures c.planned.ensures) ∙ c.if-planned.true))
+    omega (arith, planned-few c.args.net.now _ (sym (plan-is c.args.m c.args.net.now c.mark_byte.ensures c.planned.ensures) ∙ c.if-planned.true))
 
 pub channels_shaped-requires : goal.channels_shaped-requires
 channels_shaped-requires c =
-    omega (arith, planned-few c.args.s.now _ (sym (plan-is c.args.m c.args.s.now c.mark_byte.ensures c.planned.ensures) ∙ c.if-planned.true))
+    omega (arith, planned-few c.args.net.now _ (sym (plan-is c.args.m c.args.net.now c.mark_byte.ensures c.planned.ensures) ∙ c.if-planned.true))
 
 pub returns-then-planned : goal.returns-then-planned
 unfolding laid_out
-returns-then-planned c = simp (← plan-is c.args.m c.args.s.now c.mark_byte.ensures c.planned.ensures, c.if-planned.true) (cc)
+returns-then-planned c = simp (← plan-is c.args.m c.args.net.now c.mark_byte.ensures c.planned.ensures, c.if-planned.true) (cc)
 
 pub returns-else-planned : goal.returns-else-planned
 unfolding laid_out
-returns-else-planned c = simp (← plan-is c.args.m c.args.s.now c.mark_byte.ensures c.planned.ensures, c.if-planned.false)
+returns-else-planned c = simp (← plan-is c.args.m c.args.net.now c.mark_byte.ensures c.planned.ensures, c.if-planned.false)

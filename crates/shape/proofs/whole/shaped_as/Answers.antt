@@ -1,12 +1,14 @@
-use Rattle.std.proofs.Common.{rules}
+use Rattle.std.proofs.Common.{◌≡◌, Bool, ap, ◌∙◌, rules}
 use borrow.Author.Tests.{ne_eqb}
-use Rattle.shape.specs.Shape.{shaped_as}
+use Rattle.shape.specs.Shape.{laid_out, shaped_as}
 use Rattle.shape.proofs.Nets.{net-is}
 use Rattle.shape.proofs.whole.shaped_as.Goals as goal
 
-pub returns-then-s-ne-NET_LENGTH : goal.returns-then-s-ne-NET_LENGTH
-unfolding shaped_as
-returns-then-s-ne-NET_LENGTH c = simp (ne_eqb _ _ c.if-s-ne-NET_LENGTH.true)
+pub returns-in-Some : goal.returns-in-Some
+returns-in-Some c =
+    let whole = c.in-Some.ensures.cases in
+    net-is c.args.m c.args.s.now _ whole.long (λ i. search rules) (c.laid_out.ensures ∙ ap (laid_out c.args.m) whole.same)
 
-pub returns : goal.returns
-returns c = net-is c.args.m c.args.s.now _ c.if-s-ne-NET_LENGTH.false (λ i. search rules) c.laid_out.ensures
+pub returns-in-None : goal.returns-in-None
+unfolding shaped_as
+returns-in-None c = simp (ne_eqb _ _ c.in-None.ensures.cases)

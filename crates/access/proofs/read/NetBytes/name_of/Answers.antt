@@ -7,5 +7,5 @@ pub returns : goal.returns
 returns c =
     let n = c.args.self.now in
     name-is n.bytes.now n.is_net c.args.g _ _ c.requires
-    (ap (λ (k : ℕ). k + 1) (c.group_at-at.ensures.0 ∙ ap group_at c.from.ensures))
-    (c.from-3.ensures ∙ c.name_length.ensures ∙ ap (name_length n.bytes.now) c.from-2.ensures)
+    (ap (λ (k : ℕ). k + 1) (c.group_at-at.ensures.0 ∙ ap group_at c.from-g.ensures))
+    (c.from.ensures ∙ c.name_length-n.ensures ∙ ap (name_length n.bytes.now) c.from-g.ensures)

@@ -23,7 +23,7 @@ unfolding station?
 neighbours-requires c =
     let n = c.args.self.now.is_net in
     let below = ltb-true _ _ (sym c.is_station.ensures ∙ c.if-is_station.true) in
-    (omega (arith, n.long), omega (arith, c.from.ensures, below, n.stations_most))
+    omega (arith, c.from.ensures, below, n.stations_most)
 
 pub returns-then-is_station : goal.returns-then-is_station
 unfolding station? view plan_in
