@@ -1,5 +1,5 @@
 // What the bytes of a net say.
-ghost use Rattle.std.specs.Prelude.{◌≡◌, ◌+◌, ◌≤◌, ◌<◌, eqb, length, get_or};
+ghost use Rattle.std.specs.Prelude.{◌≡◌, ◌+◌, ◌≤◌, ◌<◌, true, false, eqb, length, get_or, IfOk, IfErr};
 ghost use Rattle.bits.specs.Parts.{part};
 ghost use Rattle.protocol.specs.Net.{Net, longest_name, most_groups, most_stations, group?, station?, near?};
 ghost use Rattle.protocol.specs.Entries.{count_of, under_way};
@@ -8,6 +8,8 @@ ghost use Rattle.layout.specs.Layout.{entry_size, channels_at};
 ghost use Rattle.layout.specs.Marks.{mark_of, entry_at};
 ghost use Rattle.channel.specs.Messages.{messages_of};
 ghost use Rattle.channel.specs.Inner.Channels.{IsChannel};
+ghost use Rattle.protocol.specs.declared.Refusal.TheVariants.{NotANet};
+ghost use Rattle.shape.specs.Shape.{shaped_as};
 ghost use Rattle.net.specs.View.{view, entry_of};
 ghost use Rattle.access.specs.Inner.Nets.{IsNet};
 
@@ -15,7 +17,7 @@ use bits::number::get;
 use layout::form::Mark;
 use layout::front::Front;
 use layout::offset::CHANNEL_SIZE;
-use protocol::{CAPACITY, Entry, Message, REPLY, REQUEST};
+use protocol::{CAPACITY, Entry, Message, REPLY, REQUEST, Refusal};
 
 // Bytes that are a net's, in the form of this mark, to be read: whoever has them need not look again.
 #[derive(Clone, Copy)]
@@ -60,6 +62,17 @@ impl<'a> NetBytes<'a> {
             bytes,
             mark: layout::form::mark_of(&Front { bytes }),
         }
+    }
+
+    // Any bytes, if they are a net in the form of this mark.
+    pub fn shaped(bytes: &'a [u8], mark: Mark) -> Result<Self, Refusal>
+        ensures ok { IfOk result (λ net. (net.bytes.now ≡ bytes.now) × (shaped_as mark bytes.now ≡ true)) }
+        ensures err { IfErr result (λ k. (k ≡ NotANet) × (shaped_as mark bytes.now ≡ false)) }
+    {
+        if !shape::whole::shaped_as(bytes, mark) {
+            return Err(Refusal::NotANet);
+        }
+        Ok(NetBytes { bytes, mark })
     }
 
     // How many stations there are.

@@ -62,7 +62,6 @@ module _ (l : List ℕ) (R : IsNet l) (g : ℕ) (h : g < (view l).groups) where
 
     pub root-fit : (out : List ℕ) → length out ≡ list_length → MayVisit l out g p 0 n 0 (station_bytes t n 0 p)
     root-fit out k = record {
-      is-net = R;
       group = h;
       station = rw root ((seen _ l R.shape).plan.roots g h);
       long = k;

@@ -4,27 +4,26 @@
 ghost use Rattle.std.specs.Prelude.{◌≡◌, ◌<◌};
 ghost use Rattle.protocol.specs.Net.{Net};
 ghost use Rattle.protocol.specs.Names as names;
-ghost use Rattle.net.specs.View.{view};
-ghost use Rattle.access.specs.Inner.Nets.{IsNet};
+ghost use Rattle.access.specs.Seen.{net_of};
 ghost use Rattle.find.specs.Answers.{found_of, found_in};
 
+use access::read::NetBytes;
+use layout::form::Mark;
 use protocol::Refusal;
 
 // Whether group g has this name.
-fn has_name(net: &[u8], g: u8, name: &[u8]) -> bool
-    requires net { IsNet net.now }
-    requires g_bound { g < (view net.now).groups }
-    ensures { result ≡ names.same_name ((view net.now).name g) name.now }
+fn has_name(net: &NetBytes, g: u8, name: &[u8]) -> bool
+    requires { g < (net_of net.now).groups }
+    ensures { result ≡ names.same_name ((net_of net.now).name g) name.now }
 {
-    access::read::name_of(net, g) == name
+    net.name_of(g) == name
 }
 
-// The first group that has this name, in bytes that are a net's.
-fn find_in(net: &[u8], name: &[u8]) -> Result<u8, Refusal>
-    requires { IsNet net.now }
-    ensures { found_of result ≡ names.find (view net.now) name.now }
+// The first group that has this name.
+fn find_in(net: &NetBytes, name: &[u8]) -> Result<u8, Refusal>
+    ensures { found_of result ≡ names.find (net_of net.now) name.now }
 {
-    for g in 0..access::read::groups(net) {
+    for g in 0..net.groups() {
         if has_name(net, g, name) {
             return Ok(g);
         }
@@ -36,8 +35,6 @@ fn find_in(net: &[u8], name: &[u8]) -> Result<u8, Refusal>
 pub fn find(net: &[u8], name: &[u8]) -> Result<u8, Refusal>
     ensures { found_of result ≡ found_in net.now name.now }
 {
-    if !shape::whole::shaped(net) {
-        return Err(Refusal::NotANet);
-    }
-    find_in(net, name)
+    let net = NetBytes::shaped(net, Mark::Saved)?;
+    find_in(&net, name)
 }

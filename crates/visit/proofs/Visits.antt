@@ -78,7 +78,6 @@ module _ (l : List ℕ) (g e d : ℕ) where
 
   pub take-fit : (o : List ℕ) (p j at : ℕ) → j < (view l).stations → agreed t p j ≡ true → MayVisit l o g p e d at (children_bytes t d e p j) → MayVisit l o g j e d at (station_bytes t d e j)
   take-fit o p j at lt a F = record {
-    is-net = F.is-net;
     group = F.group;
     station = lt;
     long = F.long;
@@ -89,7 +88,6 @@ module _ (l : List ℕ) (g e d : ℕ) where
   pub rest-fit : (o o' : List ℕ) (p j at r : ℕ) → j < (view l).stations → agreed t p j ≡ true → MayVisit l o g p e d at (children_bytes t d e p j)
       → Wrote o o' at r (station_bytes t d e j) → MayVisit l o' g p e d r (children_bytes t d e p (j + 1))
   rest-fit o o' p j at r lt a F W = record {
-    is-net = F.is-net;
     group = F.group;
     station = F.station;
     long = ap length W.bytes ∙ length-splice o at (station_bytes t d e j) ∙ F.long;
@@ -121,7 +119,6 @@ module _ (l : List ℕ) (g e d : ℕ) where
   pub line-fit : (o o' : List ℕ) (p at : ℕ) → d ≢ 0 → MayVisit l o g p e d at (station_bytes t d e p) → length o' ≡ length o
       → MayVisit l o' g p (e + 1) (d - 1) (at + 3) (children_bytes t (d - 1) (e + 1) p 0)
   line-fit o o' p at h F k = record {
-    is-net = F.is-net;
     group = F.group;
     station = F.station;
     long = k ∙ F.long;

@@ -6,22 +6,22 @@ ghost use Rattle.bits.specs.Parts.{splice, Wrote};
 ghost use Rattle.tree.specs.Tree.{agreed, on_tree};
 ghost use Rattle.protocol.specs.Net.{Net};
 ghost use Rattle.protocol.specs.Calls.{tree_of};
-ghost use Rattle.net.specs.View.{view};
-ghost use Rattle.access.specs.Inner.Nets.{IsNet};
+ghost use Rattle.access.specs.Seen.{net_of};
 ghost use Rattle.visit.specs.Inner.Visits.{station_bytes, children_bytes, MayVisit};
+
+use access::read::NetBytes;
 
 // How many bytes the reach list has: `list_length` of specs/Lists.antt.
 pub const LIST_LENGTH: usize = 48;
 
 // Whether p is the parent of j, and lists it.
-fn agree(net: &[u8], g: u8, p: u8, j: u8) -> bool
-    requires net { IsNet net.now }
-    requires g_bound { (g < (view net.now).groups) × (j < (view net.now).stations) }
-    ensures { result ≡ agreed (tree_of (view net.now) g) p j }
+fn agree(net: &NetBytes, g: u8, p: u8, j: u8) -> bool
+    requires { (g < (net_of net.now).groups) × (j < (net_of net.now).stations) }
+    ensures { result ≡ agreed (tree_of (net_of net.now) g) p j }
 {
-    if access::read::is_station(net, p) {
-        let upper = access::read::entry_of(net, g, p);
-        let lower = access::read::entry_of(net, g, j);
+    if net.is_station(p) {
+        let upper = net.entry(g, p);
+        let lower = net.entry(g, j);
         bits::mask::has(upper.children, j) & (lower.parent == p)
     } else {
         false
@@ -29,18 +29,17 @@ fn agree(net: &[u8], g: u8, p: u8, j: u8) -> bool
 }
 
 // Whether an agreed chain leads from c to the root.
-pub fn on_tree(net: &[u8], g: u8, c: u8) -> bool
-    requires net { IsNet net.now }
-    requires g_bound { (g < (view net.now).groups) × (c < (view net.now).stations) }
-    ensures { result ≡ on_tree (tree_of (view net.now) g) c }
+pub fn on_tree(net: &NetBytes, g: u8, c: u8) -> bool
+    requires { (g < (net_of net.now).groups) × (c < (net_of net.now).stations) }
+    ensures { result ≡ on_tree (tree_of (net_of net.now) g) c }
 {
-    let root = access::read::root_of(net, g);
+    let root = net.root_of(g);
     let mut x = c;
-    for _ in 0..access::read::stations(net) {
+    for _ in 0..net.stations() {
         if root == x {
             return true;
         }
-        let up = access::read::entry_of(net, g, x).parent;
+        let up = net.entry(g, x).parent;
         if !agree(net, g, up, x) {
             return false;
         }
@@ -62,7 +61,7 @@ fn put_reach(out: &mut [u8], at: usize, station: u8, parent: u8, depth: u8)
 // Visits the station p: its own entry, and then its list of children. Answers where the list goes on.
 #[cycle(visit_children_visit_station)]
 pub fn visit_station(
-    net: &[u8],
+    net: &NetBytes,
     g: u8,
     p: u8,
     depth: u8,
@@ -70,20 +69,20 @@ pub fn visit_station(
     out: &mut [u8],
     at: usize,
 ) -> usize
-    requires { MayVisit net.now out.old g p depth allowance at (station_bytes (tree_of (view net.now) g) allowance depth p) }
-    ensures { Wrote out.old out.new at result (station_bytes (tree_of (view net.now) g) allowance depth p) }
+    requires { MayVisit net.now.bytes.now out.old g p depth allowance at (station_bytes (tree_of (net_of net.now) g) allowance depth p) }
+    ensures { Wrote out.old out.new at result (station_bytes (tree_of (net_of net.now) g) allowance depth p) }
 {
     if allowance == 0 {
         return at;
     }
-    put_reach(out, at, p, access::read::entry_of(net, g, p).parent, depth);
+    put_reach(out, at, p, net.entry(g, p).parent, depth);
     visit_children(net, g, p, 0, depth + 1, allowance - 1, out, at + 3)
 }
 
 // Visits the agreed children of p from j on.
 #[cycle(visit_children_visit_station)]
 fn visit_children(
-    net: &[u8],
+    net: &NetBytes,
     g: u8,
     p: u8,
     j: u8,
@@ -92,10 +91,10 @@ fn visit_children(
     out: &mut [u8],
     at: usize,
 ) -> usize
-    requires { (j ≤ (view net.now).stations) × MayVisit net.now out.old g p depth allowance at (children_bytes (tree_of (view net.now) g) allowance depth p j) }
-    ensures { Wrote out.old out.new at result (children_bytes (tree_of (view net.now) g) allowance depth p j) }
+    requires { (j ≤ (net_of net.now).stations) × MayVisit net.now.bytes.now out.old g p depth allowance at (children_bytes (tree_of (net_of net.now) g) allowance depth p j) }
+    ensures { Wrote out.old out.new at result (children_bytes (tree_of (net_of net.now) g) allowance depth p j) }
 {
-    if j == access::read::stations(net) {
+    if j == net.stations() {
         return at;
     }
     if agree(net, g, p, j) {

@@ -8,15 +8,15 @@ use Rattle.net.proofs.Forms.{seen}
 use Rattle.visit.proofs.Climbs.{past-last}
 use Rattle.visit.proofs.agree.Goals as goal
 
-pub entry_of-upper-requires-clause-g_bound : goal.entry_of-upper-requires-clause-g_bound
+pub entry-upper-requires : goal.entry-upper-requires
 unfolding station?
-entry_of-upper-requires-clause-g_bound c = (c.requires.g_bound.0, ltb-true _ _ (sym c.is_station.ensures ∙ c.if-is_station.true))
+entry-upper-requires c = (c.requires.0, ltb-true _ _ (sym c.is_station.ensures ∙ c.if-is_station.true))
 
 pub returns-then-is_station : goal.returns-then-is_station
 unfolding agreed tree_of
-returns-then-is_station c = rw (c.has.ensures, c.entry_of-upper.ensures, c.entry_of-lower.ensures) refl
+returns-then-is_station c = rw (c.has.ensures, c.entry-upper.ensures, c.entry-lower.ensures) refl
 
 pub returns-else-is_station : goal.returns-else-is_station
 unfolding station?
 returns-else-is_station c = let a = c.args in
-    past-last (view a.net.now) (seen _ _ c.requires.net.shape) a.g a.p a.j (ltb-false _ _ (sym c.is_station.ensures ∙ c.if-is_station.false))
+    past-last (view a.net.now.bytes.now) (seen _ _ c.args.net.now.is_net.shape) a.g a.p a.j (ltb-false _ _ (sym c.is_station.ensures ∙ c.if-is_station.false))
