@@ -9,10 +9,11 @@ ghost use Rattle.layout.specs.Layout.{net_length, plan_length, stations, groups}
 ghost use Rattle.fresh.specs.Fresh.{fresh_outcome, net_after_fresh};
 ghost use Rattle.fresh.specs.Inner.Laying.{route_nil, entry_blank, laid};
 
-use bits::number::put32;
+use bits::number::put;
 use forms::{Cell, make_rows};
 use layout::form::Mark;
-use layout::{form, front, offset};
+use layout::front::Front;
+use layout::{form, offset};
 use protocol::{Entry, NIL, Refusal};
 
 // A station has no route to another.
@@ -67,12 +68,13 @@ fn lay(plan: &[u8], net: &mut [u8])
     requires { (length plan.now ≡ plan_length) × (stations plan.now ≤ most_stations) × (groups plan.now ≤ most_groups) × (length net.old ≡ net_length) }
     ensures { net.new ≡ laid plan.now }
 {
-    let n = usize::from(front::stations(plan));
+    let front = Front { bytes: plan };
+    let n = usize::from(front.stations());
     net.fill(0);
     net[..plan.len()].copy_from_slice(plan);
-    put32(net, 0, offset::NET_LENGTH as u32);
+    put(net, 0, offset::NET_LENGTH as u32);
     make_rows(&NoRoute, net, n, n);
-    make_rows(&BlankEntry, net, usize::from(front::groups(plan)), n);
+    make_rows(&BlankEntry, net, usize::from(front.groups()), n);
 }
 
 // A fresh net into any buffer, from any bytes.

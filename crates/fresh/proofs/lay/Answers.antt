@@ -16,7 +16,7 @@ returns c =
     let put : c.copy_from_slice.new.self ++ drop (length plan) c.fill.new.self ≡ splice c.fill.new.self 0 plan =
     ap (λ (ys : List ℕ). ys ++ drop (length plan) c.fill.new.self) c.copy_from_slice.ensures.after
     ∙ put_whole 0 (length plan) c.fill.new.self plan refl (omega (arith, c.requires.0, c.requires.3, c.fill.ensures.len)) in
-    let front = c.put32.ensures ∙ (λ i. splice ((put ∙ ap (λ (l : List ℕ). splice l 0 plan) zeros) i) 0 (bytes 4 net_length)) in
+    let front = c.put.ensures ∙ (λ i. splice ((put ∙ ap (λ (l : List ℕ). splice l 0 plan) zeros) i) 0 (bytes 4 net_length)) in
     let stations = c.from-n.ensures ∙ c.stations.ensures in
     let routed = c.make_rows.ensures ∙ (λ i. in_rows route_nil (front i) (stations i) (stations i)) in
     c.make_rows-2.ensures ∙ (λ i. in_rows entry_blank (routed i) ((c.from.ensures ∙ c.groups.ensures) i) (stations i))
