@@ -59,7 +59,7 @@ fn listen(net: &mut [u8], m: Mark, s: u8, d: u8, reply: Message) -> Case
     let e = access::read::entry_as(net, m, g, d);
     access::change::set_waiting(net, m, g, d, bits::mask::without(e.waiting, s));
     let case = entries::case_of(e, s, reply);
-    if entries::is_adopted(case) {
+    if case == Case::Adopted {
         adopt(net, m, s, d, g);
     }
     case

@@ -14,6 +14,7 @@ use action::operands::of_pair;
 use layout::form::Mark;
 
 // Whether x is a child of p that has its parent elsewhere, with nothing between the two under way.
+#[tactic(auto, unfolding(protocol::specs::Rules::drop_child))]
 fn may_drop(net: &[u8], m: Mark, g: u8, p: u8, x: u8) -> bool
     requires net { IsNet net.now }
     requires m_value { (m ≡ mark_of net.now) × (g < (view net.now).groups) × (p < (view net.now).stations) × (x < (view net.now).stations) }
@@ -21,7 +22,7 @@ fn may_drop(net: &[u8], m: Mark, g: u8, p: u8, x: u8) -> bool
 {
     let e = access::read::entry_as(net, m, g, p);
     let child = access::read::entry_as(net, m, g, x);
-    if !(bits::mask::has_at(e.children, bits::number::wide(x)) & !(child.parent == p)) {
+    if !(bits::mask::has_at(e.children, usize::from(x)) & !(child.parent == p)) {
         return false;
     }
     access::read::quiet(net, g, x, p)

@@ -14,13 +14,14 @@ use action::operands::of_pair;
 use layout::form::Mark;
 
 // Whether p waits on q in vain.
+#[tactic(auto, unfolding(protocol::specs::Rules::give_up))]
 fn may_give_up(net: &[u8], m: Mark, g: u8, p: u8, q: u8) -> bool
     requires net { IsNet net.now }
     requires m_value { (m ≡ mark_of net.now) × (g < (view net.now).groups) × (p < (view net.now).stations) × (q < (view net.now).stations) }
     ensures { result ≡ (rule.give_up (view net.now) g p q).enabled }
 {
     let e = access::read::entry_as(net, m, g, p);
-    if !bits::mask::has_at(e.waiting, bits::number::wide(q)) {
+    if !bits::mask::has_at(e.waiting, usize::from(q)) {
         return false;
     }
     access::read::quiet(net, g, p, q)
