@@ -36,8 +36,12 @@ module _ {l : List ℕ} {s d : ℕ} {m : Message} (R : IsNet l) (O : MayDeliver 
   group : m.group < (view l).groups
   group = grouped (view l) H s d O m.group (ap (λ (x : Message). x.group) is)
 
+  -- both are stations of the net
+  between-stations : (s < (view l).stations) × (d < (view l).stations)
+  between-stations = (sender (view l) H s d O, receiver (view l) H s d O)
+
   to : d < (view l).stations
-  to = receiver (view l) H s d O
+  to = between-stations.1
 
   -- the receiver's entry; and the net once it waits no longer
   abbrev had : Entry
@@ -89,8 +93,7 @@ pub entry_as-e-requires-clause-m_value : goal.entry_as-e-requires-clause-m_value
 entry_as-e-requires-clause-m_value c = let k = c.requires in (k.m_value, group k.net k.may_deliver k.reply_value, to k.net k.may_deliver k.reply_value)
 
 pub without-requires : goal.without-requires
-without-requires c = let k = c.requires in
-    omega (arith, sender (view c.args.net.now) (seen _ _ k.net.shape) c.args.s c.args.d k.may_deliver)
+without-requires c = let k = c.requires in omega (arith, between-stations k.net k.may_deliver k.reply_value)
 
 pub set_waiting-requires : goal.set_waiting-requires
 set_waiting-requires c = let k = c.requires in own _ k.net _ _ (group k.net k.may_deliver k.reply_value) (to k.net k.may_deliver k.reply_value)
