@@ -82,7 +82,8 @@ fn counted(mut t: Tally, d: Answer) -> Tally
     t
 }
 
-// One step of the net, in the form of this mark.
+// One step of the net, in the form of this mark. The numbers are matched as they are, since the customer fixed the form: "One decision by
+// match over action numbers one to nine, with a range arm for unknown ones".
 fn step_in(net: &mut [u8], m: Mark, action: u8, a: u8, b: u8, c: u8) -> Answer
     requires net { IsNet net.old }
     requires m_value { m ≡ mark_of net.old }
