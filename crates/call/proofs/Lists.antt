@@ -70,13 +70,13 @@ module _ (l : List ℕ) (R : IsNet l) (g : ℕ) (h : g < (view l).groups) where
       room = omega (arith, few, root-length);
     }
 
-    module _ (out out' : List ℕ) (r : ℕ) (clean : out ≡ replicate list_length 255) (W : Wrote out out' 0 r (station_bytes t n 0 p)) where
-      pub all-reached : r ≡ 3 * length (reach t)
-      all-reached = omega (arith, W.next, root-length)
+    module _ (out out' : List ℕ) (r : ℕ) where
+      pub all-reached : Wrote out out' 0 r (station_bytes t n 0 p) → r ≡ 3 * length (reach t)
+      all-reached W = omega (arith, W.next, root-length)
 
-      pub all_listed : out' ≡ reach_bytes (reach_list (view l) g)
+      pub all_listed : out ≡ replicate list_length 255 → Wrote out out' 0 r (station_bytes t n 0 p) → out' ≡ reach_bytes (reach_list (view l) g)
       unfolding reach_list
-      all_listed =
+      all_listed clean W =
           let left : list_length - length (reach_bytes (reach t)) ≡ 3 * (most_stations - length (reach t)) = omega (arith, few, reach-length (reach t)) in
           W.bytes ∙ (λ i. splice (clean i) 0 (root-bytes i)) ∙ front (reach_bytes (reach t)) (omega (arith, few, reach-length (reach t)))
           ∙ ap (λ (r : List ℕ). reach_bytes (reach t) ++ r) (ap (λ (k : ℕ). replicate k 255) left ∙ sym (reach-none (most_stations - length (reach t))))

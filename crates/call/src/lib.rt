@@ -1,51 +1,58 @@
 // The reach of a call.
 #![tactic(auto)]
 
-ghost use Rattle.std.specs.Prelude.{◌≡◌, true, ◌<◌, length};
+ghost use Rattle.std.specs.Prelude.{◌≡◌, ◌<◌, length};
+ghost use Rattle.tree.specs.Reach.{reach};
 ghost use Rattle.protocol.specs.Net.{Net};
-ghost use Rattle.shape.specs.Shape.{shaped};
+ghost use Rattle.protocol.specs.Calls.{tree_of, reach_list};
 ghost use Rattle.net.specs.View.{view};
 ghost use Rattle.access.specs.Inner.Nets.{IsNet};
-ghost use Rattle.visit.specs.Lists.{list_length};
+ghost use Rattle.visit.specs.Lists.{reach_bytes, list_length};
 ghost use Rattle.call.specs.Answers.{CallEnd};
 
-// The answer: how many are reached and how many copies are made, or the number of a refusal.
+use protocol::{NIL, Refusal};
+
+// How many are reached, and how many copies are made.
 #[derive(Clone, Copy)]
-pub enum Answer {
-    Reached(u8, u8),
-    Refused(u8),
+pub struct Reached {
+    pub reached: u8,
+    pub copies: u8,
 }
 
-// The call of a station that is one, in a group that is one, with a list of the stated size.
-fn call_in(net: &[u8], g: u8, c: u8, out: &mut [u8]) -> Answer
+// The reach list of a group that is one, in a list of the stated size: how many are reached.
+fn list_reached(net: &[u8], g: u8, out: &mut [u8]) -> u8
     requires net { IsNet net.now }
-    requires g_bound { (g < (view net.now).groups) × (c < (view net.now).stations) × (length out.old ≡ list_length) × (shaped net.now ≡ true) }
-    ensures { CallEnd net.now g c out.old result out.new }
+    requires g_bound { g < (view net.now).groups }
+    requires size { length out.old ≡ list_length }
+    ensures count { result ≡ length (reach (tree_of (view net.now) g)) }
+    ensures list { out.new ≡ reach_bytes (reach_list (view net.now) g) }
 {
-    if visit::on_tree(net, g, c) {
-        bits::copy::fill(out, protocol::NIL);
-        let root = access::read::root_of(net, g);
-        let n = access::read::stations(net);
-        let end = visit::visit_station(net, g, root, 0, n, out, 0);
-        let reached = (end / 3) as u8;
-        Answer::Reached(reached, reached - 1)
-    } else {
-        Answer::Refused(8)
-    }
+    out.fill(NIL);
+    let root = access::read::root_of(net, g);
+    let n = access::read::stations(net);
+    let end = visit::visit_station(net, g, root, 0, n, out, 0);
+    (end / 3) as u8
 }
 
 // The call of any station of any group in any bytes, into any list: who is reached, in the order of the tree.
-pub fn call(net: &[u8], g: u8, c: u8, out: &mut [u8]) -> Answer
+pub fn call(net: &[u8], g: u8, c: u8, out: &mut [u8]) -> Result<Reached, Refusal>
     ensures { CallEnd net.now g c out.old result out.new }
 {
     if !shape::whole::shaped(net) {
-        return Answer::Refused(1);
+        return Err(Refusal::NotANet);
     }
     if !(access::read::is_group(net, g) & access::read::is_station(net, c)) {
-        return Answer::Refused(3);
+        return Err(Refusal::BadOperand);
     }
     if out.len() != visit::LIST_LENGTH {
-        return Answer::Refused(10);
+        return Err(Refusal::WrongSize);
     }
-    call_in(net, g, c, out)
+    if !visit::on_tree(net, g, c) {
+        return Err(Refusal::NotOnTree);
+    }
+    let reached = list_reached(net, g, out);
+    Ok(Reached {
+        reached,
+        copies: reached - 1,
+    })
 }

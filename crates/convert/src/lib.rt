@@ -1,47 +1,37 @@
 // A net carried from one form of its bytes to another.
 #![tactic(auto)]
 
-ghost use Rattle.std.specs.Prelude.{◌≡◌, ◌<◌, length};
-ghost use Rattle.protocol.specs.Net.{most_groups, most_stations};
+ghost use Rattle.std.specs.Prelude.{◌≡◌, length};
+ghost use Rattle.protocol.specs.Net.{most_groups};
+ghost use Rattle.protocol.specs.Refusals.{outcome_of};
 ghost use Rattle.layout.specs.Layout.{net_length};
 ghost use Rattle.layout.specs.declared.form.Mark.TheVariants.{Saved, Working};
-ghost use Rattle.forms.specs.Folds.{in_row, in_rows};
 ghost use Rattle.convert.specs.Converts.{convert_outcome, after_convert};
 ghost use Rattle.convert.specs.Inner.Carried.{entry_carried, carried};
 
-use bits::copy::put;
+use forms::{Cell, make_rows};
 use layout::form::{Mark, entry_at, mark_byte};
 use layout::offset::{ENTRY_SIZE, NET_LENGTH};
-use protocol::{MOST_GROUPS, MOST_STATIONS};
+use protocol::{MOST_GROUPS, MOST_STATIONS, Refusal};
 
-// The bytes of the entry of group g and station p, from where it stands in the form m to where it stands in the form n.
-fn carry_entry(net: &[u8], m: Mark, out: &mut [u8], n: Mark, g: usize, p: usize)
-    requires { (length net.now ≡ net_length) × (length out.old ≡ net_length) × (g < most_groups) × (p < most_stations) }
-    ensures { out.new ≡ entry_carried net.now m n out.old g p }
-{
-    let a = entry_at(m, g, p);
-    put(out, entry_at(n, g, p), &net[a..a + ENTRY_SIZE]);
+// The entries of a net, from where they stand in one form to where they stand in another.
+#[derive(Drop)]
+struct Entries<'a> {
+    net: &'a [u8],
+    from: Mark,
+    to: Mark,
+    ghost long: { length net.now ≡ net_length },
 }
 
-fn carry_group(net: &[u8], m: Mark, out: &mut [u8], n: Mark, g: usize)
-    requires { (length net.now ≡ net_length) × (length out.old ≡ net_length) × (g < most_groups) }
-    ensures { out.new ≡ in_row (entry_carried net.now m n) out.old g most_stations }
-{
-    let mut p = 0;
-    while p < MOST_STATIONS {
-        carry_entry(net, m, out, n, g, p);
-        p += 1;
-    }
-}
+impl Cell for Entries<'_> {
+    ghost rows = { most_groups };
 
-fn carry_entries(net: &[u8], m: Mark, out: &mut [u8], n: Mark)
-    requires { (length net.now ≡ net_length) × (length out.old ≡ net_length) }
-    ensures { out.new ≡ in_rows (entry_carried net.now m n) out.old most_groups most_stations }
-{
-    let mut g = 0;
-    while g < MOST_GROUPS {
-        carry_group(net, m, out, n, g);
-        g += 1;
+    ghost made = { λ e out g p. entry_carried e.net.now e.from e.to out g p };
+
+    fn make(&self, out: &mut [u8], g: usize, p: usize) {
+        let a = entry_at(self.from, g, p);
+        let b = entry_at(self.to, g, p);
+        out[b..b + ENTRY_SIZE].copy_from_slice(&self.net[a..a + ENTRY_SIZE]);
     }
 }
 
@@ -50,37 +40,42 @@ fn carry(net: &[u8], m: Mark, out: &mut [u8], n: Mark)
     requires { (length net.now ≡ net_length) × (length out.old ≡ net_length) }
     ensures { out.new ≡ carried net.now m n }
 {
-    put(out, 0, net);
+    out.copy_from_slice(net);
     out[7] = mark_byte(n);
-    carry_entries(net, m, out, n);
+    let entries = Entries {
+        net,
+        from: m,
+        to: n,
+    };
+    make_rows(&entries, out, MOST_GROUPS, MOST_STATIONS);
 }
 
-// Any bytes, which are to be a net in the form m, into any buffer in the form n: the outcome number.
-pub fn convert(net: &[u8], m: Mark, out: &mut [u8], n: Mark) -> u8
-    ensures { (result ≡ convert_outcome m net.now out.old)
+// Any bytes, which are to be a net in the form m, into any buffer in the form n.
+pub fn convert(net: &[u8], m: Mark, out: &mut [u8], n: Mark) -> Result<(), Refusal>
+    ensures { (outcome_of result ≡ convert_outcome m net.now out.old)
         × (out.new ≡ after_convert m n net.now out.old) }
 {
     if !shape::whole::shaped_as(net, m) {
-        return 1;
+        return Err(Refusal::NotANet);
     }
     if out.len() != NET_LENGTH {
-        return 10;
+        return Err(Refusal::WrongSize);
     }
     carry(net, m, out, n);
-    0
+    Ok(())
 }
 
 // From the saved form to the working form.
-pub fn to_working(net: &[u8], work: &mut [u8]) -> u8
-    ensures { (result ≡ convert_outcome Saved net.now work.old)
+pub fn to_working(net: &[u8], work: &mut [u8]) -> Result<(), Refusal>
+    ensures { (outcome_of result ≡ convert_outcome Saved net.now work.old)
         × (work.new ≡ after_convert Saved Working net.now work.old) }
 {
     convert(net, Mark::Saved, work, Mark::Working)
 }
 
 // And back.
-pub fn to_saved(work: &[u8], net: &mut [u8]) -> u8
-    ensures { (result ≡ convert_outcome Working work.now net.old)
+pub fn to_saved(work: &[u8], net: &mut [u8]) -> Result<(), Refusal>
+    ensures { (outcome_of result ≡ convert_outcome Working work.now net.old)
         × (net.new ≡ after_convert Working Saved work.now net.old) }
 {
     convert(work, Mark::Working, net, Mark::Saved)

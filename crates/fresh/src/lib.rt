@@ -1,40 +1,31 @@
 // A fresh net from a plan.
 #![tactic(auto)]
 
-ghost use Rattle.std.specs.Prelude.{◌≡◌, ◌≤◌, ◌<◌, length};
+ghost use Rattle.std.specs.Prelude.{◌≡◌, ◌≤◌, length};
 ghost use Rattle.protocol.specs.Net.{most_stations, most_groups};
+ghost use Rattle.protocol.specs.Refusals.{outcome_of};
 ghost use Rattle.protocol.specs.Fresh.{blank};
 ghost use Rattle.layout.specs.Layout.{net_length, plan_length, stations, groups};
 ghost use Rattle.fresh.specs.Fresh.{fresh_outcome, net_after_fresh};
-ghost use Rattle.forms.specs.Folds.{in_row, in_rows};
 ghost use Rattle.fresh.specs.Inner.Laying.{route_nil, entry_blank, laid};
 
-use bits::copy::put;
-use bits::number::{put32, wide};
+use bits::number::put32;
+use forms::{Cell, make_rows};
 use layout::form::Mark;
 use layout::{form, front, offset};
-use protocol::{Entry, NIL};
+use protocol::{Entry, NIL, Refusal};
 
-// Station p has no route to any of the n stations.
-fn routes_from(net: &mut [u8], p: usize, n: usize)
-    requires { (length net.old ≡ net_length) × (p < most_stations) × (n ≤ most_stations) }
-    ensures { net.new ≡ in_row route_nil net.old p n }
-{
-    let mut d = 0;
-    while d < n {
+// A station has no route to another.
+#[derive(Drop)]
+struct NoRoute;
+
+impl Cell for NoRoute {
+    ghost rows = { most_stations };
+
+    ghost made = { λ _ net p d. route_nil net p d };
+
+    fn make(&self, net: &mut [u8], p: usize, d: usize) {
         net[offset::route_at(p, d)] = NIL;
-        d += 1;
-    }
-}
-
-fn routes(net: &mut [u8], n: usize)
-    requires { (length net.old ≡ net_length) × (n ≤ most_stations) }
-    ensures { net.new ≡ in_rows route_nil net.old n n }
-{
-    let mut p = 0;
-    while p < n {
-        routes_from(net, p, n);
-        p += 1;
     }
 }
 
@@ -51,40 +42,23 @@ fn blank() -> Entry
     }
 }
 
-// The entry of station p in group g is blank.
-fn blank_entry(net: &mut [u8], g: usize, p: usize)
-    requires { (length net.old ≡ net_length) × (g < most_groups) × (p < most_stations) }
-    ensures { net.new ≡ entry_blank net.old g p }
-{
-    let a = form::stretch_at(Mark::Saved, g);
-    let n = form::stretch_size(Mark::Saved);
-    access::change::write_entry(
-        &mut net[a..a + n],
-        form::in_stretch(Mark::Saved, p),
-        blank(),
-    );
-}
+// In a group, the entry of a station is blank.
+#[derive(Drop)]
+struct BlankEntry;
 
-// So are those of the n stations.
-fn entries_of(net: &mut [u8], g: usize, n: usize)
-    requires { (length net.old ≡ net_length) × (g < most_groups) × (n ≤ most_stations) }
-    ensures { net.new ≡ in_row entry_blank net.old g n }
-{
-    let mut p = 0;
-    while p < n {
-        blank_entry(net, g, p);
-        p += 1;
-    }
-}
+impl Cell for BlankEntry {
+    ghost rows = { most_groups };
 
-fn entries(net: &mut [u8], groups: usize, n: usize)
-    requires { (length net.old ≡ net_length) × (groups ≤ most_groups) × (n ≤ most_stations) }
-    ensures { net.new ≡ in_rows entry_blank net.old groups n }
-{
-    let mut g = 0;
-    while g < groups {
-        entries_of(net, g, n);
-        g += 1;
+    ghost made = { λ _ net g p. entry_blank net g p };
+
+    fn make(&self, net: &mut [u8], g: usize, p: usize) {
+        let a = form::stretch_at(Mark::Saved, g);
+        let n = form::stretch_size(Mark::Saved);
+        access::change::write_entry(
+            &mut net[a..a + n],
+            form::in_stretch(Mark::Saved, p),
+            blank(),
+        );
     }
 }
 
@@ -93,25 +67,24 @@ fn lay(plan: &[u8], net: &mut [u8])
     requires { (length plan.now ≡ plan_length) × (stations plan.now ≤ most_stations) × (groups plan.now ≤ most_groups) × (length net.old ≡ net_length) }
     ensures { net.new ≡ laid plan.now }
 {
-    let n = wide(front::stations(plan));
-    bits::copy::fill(net, 0);
-    put(net, 0, plan);
+    let n = usize::from(front::stations(plan));
+    net.fill(0);
+    net[..plan.len()].copy_from_slice(plan);
     put32(net, 0, offset::NET_LENGTH as u32);
-    routes(net, n);
-    entries(net, wide(front::groups(plan)), n);
+    make_rows(&NoRoute, net, n, n);
+    make_rows(&BlankEntry, net, usize::from(front::groups(plan)), n);
 }
 
-// A fresh net into any buffer, from any bytes: its outcome number.
-pub fn fresh(plan: &[u8], net: &mut [u8]) -> u8
-    ensures { (result ≡ fresh_outcome plan.now net.old) × (net.new ≡ net_after_fresh plan.now net.old) }
+// A fresh net into any buffer, from any bytes.
+pub fn fresh(plan: &[u8], net: &mut [u8]) -> Result<(), Refusal>
+    ensures { (outcome_of result ≡ fresh_outcome plan.now net.old) × (net.new ≡ net_after_fresh plan.now net.old) }
 {
     if net.len() != offset::NET_LENGTH {
-        return 10;
+        return Err(Refusal::WrongSize);
     }
-    if plan::whole::plan_shaped(plan) {
-        lay(plan, net);
-        0
-    } else {
-        9
+    if !plan::whole::plan_shaped(plan) {
+        return Err(Refusal::NotAPlan);
     }
+    lay(plan, net);
+    Ok(())
 }

@@ -2,8 +2,7 @@
 use mathlib.Core.Path.{◌≡◌, refl, sym, ap, ◌∙◌}
 use mathlib.Core.Logic.{◌≢◌}
 use mathlib.Core.Bool.{true, false, ◌&&◌}
-use Prim.Native.Nat.{ℕ, zero, suc, ◌-◌, ◌≤◌, ◌<◌}
-use native.Mathlib.Numerals.{sub-one}
+use Prim.Native.Nat.{ℕ, zero, suc, ◌≤◌, ◌<◌}
 use native.Mathlib.Omega.{arith}
 use borrow.Author.Tests.{eq-eqb, ne_eqb}
 use Rattle.bits.proofs.Cases.{by-lt, clash}
@@ -25,23 +24,24 @@ pub agreed-station : (N : Net) → Shaped N → (g p j : ℕ) → agreed (tree_o
 agreed-station N H g p j a = by-lt p N.stations (λ h. h) (λ h. clash a (sym (past-last N H g p j h)))
 
 module _ (t : Tree) where
-  -- the chain from c goes on from x, with so many hops left
-  pub climb-none : (x : ℕ) → climbs t 0 x ≡ false
+  -- the chain goes on from x, with d hops left
+  pub climb-none : (d x : ℕ) → d ≡ 0 → climbs t d x ≡ false
   unfolding climbs
-  climb-none x = refl
+  climb-none d x z = rw z refl
 
   pub climb-root : (d x : ℕ) → 0 < d → t.root ≡ x → climbs t d x ≡ true
   unfolding climbs
   climb-root zero x h e = absurd (omega arith)
   climb-root (suc d) x h e = rw (eq-eqb t.root x e)
 
-  climb-hop : (d x : ℕ) → 0 < d → t.root ≢ x → climbs t d x ≡ (agreed t (t.parent x) x && climbs t (d - 1) (t.parent x))
-  unfolding climbs
-  climb-hop zero x h e = absurd (omega arith)
-  climb-hop (suc d) x h e = rw (ne_eqb t.root x e, sub-one)
+  -- one hop, which leaves d
+  module _ (d' d x q : ℕ) (one : d' ≡ suc d) (below : t.root ≢ x) (up : q ≡ t.parent x) where
+    climb-hop : climbs t d' x ≡ (agreed t q x && climbs t d q)
+    unfolding climbs
+    climb-hop = rw (one, ne_eqb t.root x below, up)
 
-  pub climb-up : (d x q : ℕ) → 0 < d → t.root ≢ x → q ≡ t.parent x → agreed t q x ≡ true → climbs t d x ≡ climbs t (d - 1) q
-  climb-up d x q h e f a = climb-hop d x h e ∙ rw (← f) (rw a)
+    pub climb-up : agreed t q x ≡ true → climbs t d' x ≡ climbs t d q
+    climb-up a = climb-hop ∙ rw a
 
-  pub climb-off : (d x q : ℕ) → 0 < d → t.root ≢ x → q ≡ t.parent x → agreed t q x ≡ false → climbs t d x ≡ false
-  climb-off d x q h e f a = climb-hop d x h e ∙ rw (← f) (rw a)
+    pub climb-off : agreed t q x ≡ false → climbs t d' x ≡ false
+    climb-off a = climb-hop ∙ rw a

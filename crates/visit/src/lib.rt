@@ -36,8 +36,7 @@ pub fn on_tree(net: &[u8], g: u8, c: u8) -> bool
 {
     let root = access::read::root_of(net, g);
     let mut x = c;
-    let mut hops = access::read::stations(net);
-    while hops > 0 {
+    for _ in 0..access::read::stations(net) {
         if root == x {
             return true;
         }
@@ -46,7 +45,6 @@ pub fn on_tree(net: &[u8], g: u8, c: u8) -> bool
             return false;
         }
         x = up;
-        hops -= 1;
     }
     false
 }

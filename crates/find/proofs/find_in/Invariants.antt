@@ -1,0 +1,6 @@
+use Rattle.net.specs.View.{view}
+use Rattle.find.proofs.Names.{Still}
+use Rattle.find.proofs.find_in.Given as goal
+
+abbrev pub invariant-loop-g : goal.invariant-loop-g
+invariant-loop-g l = Still (view l.net) l.name l.g
