@@ -39,9 +39,9 @@ module _ (w ns o : List ℕ) where
     filling-byte {left = []} F t A = filling-more 0 F A refl (rw (drop_more w i 0 h) (ap (λ (l : List ℕ). get_or w i 0 ∷ l) (sym (filled_none _))))
     filling-byte {left = n ∷ left} F t A = let f : is_gap (get_or w i 0) ≡ false = t (omega arith) in filling-more 0 F A (omega arith) (rw (drop_more w i 0 h, f) refl)
 
-  pub filling-all : {o' left : List ℕ} {i : ℕ} → length w ≤ i → i ≤ length w → Filling o' i left
+  pub filling-all : {o' left : List ℕ} {i : ℕ} → i ≡ length w → Filling o' i left
       → Added (length w + 9 * length ns) o o' (filled w ns)
   unfolding filled
-  filling-all {o'} {left} {i} h k F =
-      let all : o' ≡ o ++ filled w ns = sym (append-nil o') ∙ rw (drop_all i w h) at F.rest in
+  filling-all {o'} {left} {i} n F =
+      let all : o' ≡ o ++ filled w ns = sym (append-nil o') ∙ rw (drop_all i w (omega arith)) at F.rest in
       record { all = all; within = omega (arith, F.room, ap length all, length-append o (filled w ns)) }

@@ -1,13 +1,13 @@
 // Text in a buffer of a fixed room: each method adds to its end.
 #![tactic(auto)]
 
-ghost use Rattle.std.specs.Prelude.{◌≡◌, ℕ, ◌&&◌, List, [], ◌∷◌, ◌++◌, ◌+◌, ◌*◌, ◌^◌, ◌≤◌, ◌<◌, ltb, length, take};
-ghost use Rattle.text.specs.Text.{digits_by, decimal, is_gap, is_nil, in_gap, filled, byte_if, or_dash, mask_item, mask_list, hex_digit, hex_byte, hex};
+ghost use Rattle.std.specs.Prelude.{◌≡◌, ℕ, ◌+◌, ◌*◌, ◌≤◌, ◌<◌, ltb, List, [], ◌∷◌, length, take};
+ghost use Rattle.text.specs.Text.{decimal, is_gap, is_nil, in_gap, filled, byte_if, or_dash, mask_item, mask_list, hex_digit, hex_byte, hex};
 ghost use Rattle.text.specs.Inner.Added.{Added};
 
 use std::marker::Model;
 
-// At most ROOM bytes. Clauses see them as a list.
+// At most ROOM bytes. A clause sees the list of them, and not what the array holds behind them.
 #[derive(Drop)]
 pub struct Text<const ROOM: usize> {
     bytes: [u8; ROOM],
@@ -64,7 +64,7 @@ impl<const ROOM: usize> Text<ROOM> {
         }
     }
 
-    // n in decimal.
+    // n in decimal. `write!` answers a `Result`, and no clause of std says that it is `Ok` here; `itoa` gives the digits of every number.
     fn put_number(&mut self, n: u32)
         requires { length self.old + 10 ≤ ROOM }
         ensures { Added 10 self.old self.new (decimal n) }

@@ -22,4 +22,4 @@ loop-b-preserved g c =
     ]
 
 pub returns : goal.returns
-returns g c = filling-all _ _ _ (omega arith) (omega arith) c.loop-b.invariant
+returns g c = filling-all _ _ _ (omega arith) c.loop-b.invariant
