@@ -1,4 +1,4 @@
-// The lines of the listing. Each function adds to a text.
+// The lines of the listing. Each function adds to the end of a text.
 ghost use Rattle.std.specs.Prelude.{◌≡◌, ◌+◌, ◌≤◌, ◌<◌, length};
 ghost use Rattle.protocol.specs.Net.{Net, in_channels};
 ghost use Rattle.net.specs.View.{view};

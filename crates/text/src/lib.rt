@@ -1,4 +1,4 @@
-// Text in a buffer of a fixed room: each method adds to its end.
+// Text with a fixed room: what is put is added to its end.
 #![tactic(auto)]
 
 ghost use Rattle.std.specs.Prelude.{◌≡◌, ℕ, ◌+◌, ◌*◌, ◌≤◌, ◌<◌, ltb, List, [], ◌∷◌, length, take};
