@@ -5,7 +5,7 @@
 ghost use Rattle.std.specs.Prelude.{◌≡◌, ◌/◌, ◌≤◌, length};
 ghost use Rattle.protocol.specs.Net.{longest_script};
 ghost use Rattle.protocol.specs.Cases.{case_number};
-ghost use Rattle.protocol.specs.Runs.{no_tally, count_case, after};
+ghost use Rattle.protocol.specs.Runs.{count_case, after};
 ghost use Rattle.layout.specs.Marks.{mark_of};
 ghost use Rattle.net.specs.View.{view};
 ghost use Rattle.net.specs.Encode.{bytes_like};
@@ -16,25 +16,6 @@ ghost use Rattle.script.specs.Inner.Counts.{counted, RepliesUpTo, CountsUpTo};
 use action::Answer;
 use layout::form::Mark;
 use protocol::{Case, Replies, Tally};
-
-// No step yet.
-pub fn no_tally() -> Tally
-    ensures { result ≡ no_tally }
-{
-    Tally {
-        accepted: 0,
-        refused: 0,
-        sent: 0,
-        delivered: 0,
-        lost: 0,
-        replies: Replies {
-            adopted: 0,
-            not_tentative: 0,
-            unconnected: 0,
-            not_greater: 0,
-        },
-    }
-}
 
 // One reply more of this case.
 #[tactic(auto, using(crate::proofs::CountsUpTo::each_few), unfolding(protocol::specs::Runs::count_case, protocol::specs::Runs::case_count, protocol::specs::Cases::case_number))]
@@ -111,7 +92,7 @@ pub fn run_in(net: &mut [u8], m: Mark, script: &[u8]) -> Tally
     ensures { (result ≡ (after (view net.old) script.now (length script.now / 4)).tally)
         × (net.new ≡ bytes_like net.old (after (view net.old) script.now (length script.now / 4)).net) }
 {
-    let mut tally = no_tally();
+    let mut tally = Tally::default();
     for step in script.chunks_exact(4) {
         let d = step_in(net, m, step[0], step[1], step[2], step[3]);
         tally = counted(tally, d);

@@ -15,7 +15,7 @@ loop-step-init c = record {
   left = search rules;
   within = omega arith;
   net = sym (view-bytes _ _ c.requires.net.shape);
-  tally = c.no_tally-tally.ensures;
+  tally = search rules;
 }
 
 pub step_in-d-requires-clause-net : goal.step_in-d-requires-clause-net
