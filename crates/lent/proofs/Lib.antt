@@ -1,4 +1,4 @@
 -- The laws of lent records.
 pub mod Tallies
-pub mod Filled
-pub mod Fillings
+pub mod Records
+pub mod Calls

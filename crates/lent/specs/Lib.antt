@@ -1,3 +1,2 @@
 -- Records that the caller lends.
 pub mod Lists
-pub mod Inner

@@ -2,18 +2,12 @@
 use Rattle.std.specs.Prelude.{cond, List, ℕ, eqb, length}
 use Rattle.tree.specs.declared.Reach.{Reach}
 use Rattle.protocol.specs.Net.{most_stations}
-use Rattle.protocol.specs.Calls.{reach_list}
-use Rattle.protocol.specs.Calls as book
+use Rattle.protocol.specs.Calls.{Called, reach_list}
 use Rattle.net.specs.View.{view}
 use Rattle.call.specs.Answers.{called_in}
-use Rattle.lent.specs.declared.list.Called.{Called}
-
--- what the book tells of a call, as a record
-abbrev pub called_record : book.Called → Called
-called_record c = record { outcome = c.outcome; reached = c.reached; copies = c.copies }
 
 -- the call into a list of n entries: 10 unless they are "exactly 16"
-abbrev pub called_on : List ℕ → ℕ → ℕ → ℕ → book.Called
+abbrev pub called_on : List ℕ → ℕ → ℕ → ℕ → Called
 called_on l g c n = called_in l g c (eqb n most_stations)
 
 -- the reach list, and on a refusal the list as it was

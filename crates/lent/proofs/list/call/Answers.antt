@@ -1,23 +1,35 @@
-use Rattle.std.proofs.Common.{◌≡◌, ◌<◌, length, refl, sym, ap, ◌∙◌, arith}
-use Rattle.lent.specs.Inner.Filling.{filled}
-use Rattle.lent.proofs.Filled.{filled_none, filled_more}
+use Rattle.std.proofs.lemmas.Result.{err_from_is_err_and}
+use Rattle.lent.proofs.Calls.{fits-all, fits-none, after-err, may-fill, after-ok}
 use Rattle.lent.proofs.list.call.Goals as goal
+use Rattle.lent.proofs.list.call.Goals.{then-list-eq-MOST_STATIONS, else-list-eq-MOST_STATIONS}
 
-pub loop-i-init : goal.loop-i-init
-loop-i-init c = (omega arith, sym (filled_none _ _))
+pub returns-in_err-reached : goal.returns-in_err-reached
+returns-in_err-reached c =
+    let a = c.args in
+    let s = c.if-list-eq-MOST_STATIONS in
+    let p = err_from_is_err_and c.from_residual.result c.from_residual.ensures.1 in
+    rw (p.1, p.2) (after-err a.net.now a.g a.c a.list.now s.size
+    (elim s.branch [
+      | then-list-eq-MOST_STATIONS w ↦ fits-all _ _ w.size-is w.if-list-eq-MOST_STATIONS.true
+      | else-list-eq-MOST_STATIONS w ↦ fits-none _ _ w.size-is w.if-list-eq-MOST_STATIONS.false
+    ]) _ _ c.call.ensures _ c.in_err-reached.was)
 
-pub loop-i-preserved : goal.loop-i-preserved
-loop-i-preserved c =
-    let k = c.call_bytes-k in
-    let list = c.args.list.now in
-    let within : c.loop-i.i < length list = omega (arith, k.ensures.within.0) in (
-      omega arith,
-      rw (c.loop-i.invariant.1, c.reach_at.ensures) (filled_more k.result.bytes list c.loop-i.i within),
-    )
+pub fill-requires : goal.fill-requires
+fill-requires c =
+    let a = c.args in
+    let s = c.if-list-eq-MOST_STATIONS in
+    may-fill a.net.now a.g a.c a.list.now s.size
+    (elim s.branch [
+      | then-list-eq-MOST_STATIONS w ↦ fits-all _ _ w.size-is w.if-list-eq-MOST_STATIONS.true
+      | else-list-eq-MOST_STATIONS w ↦ fits-none _ _ w.size-is w.if-list-eq-MOST_STATIONS.false
+    ]) _ _ c.call.ensures _ c.in_ok-reached.was c.call.auto.out
 
 pub returns : goal.returns
 returns c =
-    let k = c.call_bytes-k in
-    let list = c.args.list.now in
-    let all : c.loop-i.i ≡ k.result.fill = omega arith in
-    (k.ensures.called, c.loop-i.invariant.1 ∙ ap (filled k.result.bytes list) all ∙ k.ensures.after list refl)
+    let a = c.args in
+    let s = c.if-list-eq-MOST_STATIONS in
+    after-ok a.net.now a.g a.c a.list.now s.size
+    (elim s.branch [
+      | then-list-eq-MOST_STATIONS w ↦ fits-all _ _ w.size-is w.if-list-eq-MOST_STATIONS.true
+      | else-list-eq-MOST_STATIONS w ↦ fits-none _ _ w.size-is w.if-list-eq-MOST_STATIONS.false
+    ]) _ _ c.call.ensures _ c.in_ok-reached.was _ c.fill.ensures

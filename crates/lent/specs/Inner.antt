@@ -1,2 +1,0 @@
--- What only inner contracts need.
-pub mod Filling
