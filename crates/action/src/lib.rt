@@ -7,7 +7,8 @@ pub mod operands;
 use protocol::Case;
 
 // What came of an action: it was refused; or it was accepted, and moved no message, sent one, answered a request, heard a reply of this
-// case, or lost one. Which number a refusal has is not told here: a run only counts it.
+// case, or lost one. Which number a refusal has is not told here: a run only counts it. It is one of six and not a result with an option
+// in it: the tally of a run is counted by one match over the six.
 #[derive(Clone, Copy)]
 pub enum Answer {
     Refused,

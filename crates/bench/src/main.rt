@@ -35,15 +35,13 @@ fn read_full(input: &mut Stdin, buf: &mut [u8]) -> usize
 fn count_rest(input: &mut Stdin) -> usize
     ensures { result ≤ 4096 * 4294967295 }
 {
-    let mut turns: usize = 4294967295;
     let mut sum: usize = 0;
-    while turns > 0 {
+    for _ in 0..4294967295usize {
         let n = some(input);
         if n == 0 {
             break;
         }
         sum += n;
-        turns -= 1;
     }
     sum
 }

@@ -3,20 +3,20 @@
 
 ghost use Rattle.std.specs.Prelude.{◌≡◌, ◌≢◌, not, ◌&&◌, ◌||◌, ◌<◌, eqb};
 ghost use Rattle.bits.specs.Masks as mask;
-ghost use Rattle.bits.specs.Sums.{bit};
 ghost use Rattle.protocol.specs.Net.{nil, most_stations};
-ghost use Rattle.protocol.specs.declared.Case.TheVariants.{Adopted};
 ghost use Rattle.protocol.specs.Cases as reply;
 ghost use Rattle.protocol.specs.Entries as rule;
 
 use protocol::{Case, Entry, Message, NIL, REPLY, REQUEST};
 
+#[tactic(auto, unfolding(protocol::specs::Entries::joins))]
 fn joins(e: Entry) -> bool
     ensures { result ≡ rule.joins e }
 {
     (e.member == 1) | !(e.children == 0)
 }
 
+#[tactic(auto, unfolding(protocol::specs::Entries::connected))]
 fn connected(root: u8, p: u8, e: Entry) -> bool
     ensures { result ≡ rule.connected root p e }
 {
@@ -31,7 +31,7 @@ fn may_ask_at(waiting: u16, q: u8) -> bool
     if q == NIL {
         return false;
     }
-    !bits::mask::has_at(waiting, bits::number::wide(q))
+    !bits::mask::has_at(waiting, usize::from(q))
 }
 
 // Whether station p may ask q, its route's neighbour or nil.
@@ -91,24 +91,19 @@ pub fn request_of(g: u8) -> Message
     }
 }
 
-fn bit(b: bool) -> u8
-    ensures { result ≡ bit b }
-{
-    if b { 1 } else { 0 }
-}
-
 pub fn reply_of(g: u8, root: u8, p: u8, e: Entry) -> Message
     ensures { result ≡ rule.reply_of g root p e }
 {
     Message {
         kind: REPLY,
         group: g,
-        connected: bit(connected(root, p, e)),
+        connected: u8::from(connected(root, p, e)),
         clock: e.clock,
     }
 }
 
 // The test of a reply from s: which case holds.
+#[tactic(auto, unfolding(protocol::specs::Cases::case_of, protocol::specs::Cases::case_says))]
 pub fn case_of(e: Entry, s: u8, m: Message) -> Case
     ensures { result ≡ reply.case_of e s m }
 {
@@ -122,23 +117,4 @@ pub fn case_of(e: Entry, s: u8, m: Message) -> Case
         return Case::NotGreater;
     }
     Case::Adopted
-}
-
-// The number of a case.
-pub fn case_number(c: Case) -> u8
-    ensures { result ≡ reply.case_number c }
-{
-    match c {
-        Case::Adopted => 1,
-        Case::NotTentative => 2,
-        Case::Unconnected => 3,
-        Case::NotGreater => 4,
-    }
-}
-
-// Whether it is the case in which a reply is taken.
-pub fn is_adopted(c: Case) -> bool
-    ensures { result ≡ eqb (reply.case_number c) (reply.case_number Adopted) }
-{
-    case_number(c) == case_number(Case::Adopted)
 }

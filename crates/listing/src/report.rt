@@ -1,14 +1,16 @@
 // The report on an input: the listing, or the refusal.
-ghost use Rattle.std.specs.Prelude.{◌≡◌, ◌≤◌, ◌<◌, length};
+ghost use Rattle.std.specs.Prelude.{◌≡◌, ◌+◌, ◌≤◌, ◌<◌, length};
 ghost use Rattle.bits.specs.Parts.{Wrote};
 ghost use Rattle.protocol.specs.Fresh.{fresh};
 ghost use Rattle.layout.specs.Layout.{net_length};
 ghost use Rattle.net.specs.Encode.{bytes_of};
+ghost use Rattle.text.specs.Inner.Added.{Added};
 ghost use Rattle.listing.specs.Bench.{plan_part, text_room, stored_outcome, stored_text};
 ghost use Rattle.forms.specs.Plans.{plan_in};
 
 use crate::lines;
 use layout::offset::{NET_LENGTH, PLAN_LENGTH};
+use text::Text;
 
 // `stored_length` and `text_room` of specs/Bench.antt: a plan and the longest script, and room for every text.
 pub const STORED_LENGTH: usize = 16496;
@@ -29,16 +31,29 @@ fn stored_outcome(stored: &[u8], beyond: usize, net: &mut [u8]) -> u8
     run::length_outcome(stored.len() - PLAN_LENGTH + beyond)
 }
 
+// The text of the report.
+fn text_of(stored: &[u8], beyond: usize, text: &mut Text<TEXT_ROOM>)
+    requires { (length text.old + 16561 ≤ TEXT_ROOM) × (beyond < 9223372036854775808) }
+    ensures { Added 16561 text.old text.new (stored_text stored.now beyond) }
+{
+    let mut net = [0u8; NET_LENGTH];
+    let k = stored_outcome(stored, beyond, &mut net);
+    if k != 0 {
+        lines::refused_text(text, k);
+    } else {
+        let ran = run::run(&mut net, &stored[PLAN_LENGTH..]);
+        lines::listing(&net, ran.tally, text);
+    }
+}
+
 // The report on the bytes that are stored of an input, where `beyond` more were counted.
 pub fn report(stored: &[u8], beyond: usize, out: &mut [u8]) -> usize
     requires { (text_room ≤ length out.old) × (beyond < 9223372036854775808) }
     ensures { Wrote out.old out.new 0 result (stored_text stored.now beyond) × (result ≤ text_room) }
 {
-    let mut net = [0u8; NET_LENGTH];
-    let k = stored_outcome(stored, beyond, &mut net);
-    if k != 0 {
-        return lines::refused_text(out, k);
-    }
-    let ran = run::run(&mut net, &stored[PLAN_LENGTH..]);
-    lines::listing(&net, ran.tally, out)
+    let mut text = Text::new();
+    text_of(stored, beyond, &mut text);
+    let n = text.len();
+    out[..n].copy_from_slice(text.as_slice());
+    n
 }

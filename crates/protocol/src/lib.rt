@@ -48,7 +48,7 @@ pub enum Case {
 }
 
 // How many replies of each case were heard.
-#[derive(Clone, Copy)]
+#[derive(Clone, Copy, Default)]
 pub struct Replies {
     pub adopted: u32,
     pub not_tentative: u32,
@@ -56,7 +56,7 @@ pub struct Replies {
     pub not_greater: u32,
 }
 
-#[derive(Clone, Copy)]
+#[derive(Clone, Copy, Default)]
 pub struct Tally {
     pub accepted: u32,
     pub refused: u32,

@@ -2,7 +2,7 @@
 use Rattle.std.specs.Prelude.{ℕ, ◌+◌, ◌*◌}
 use Rattle.protocol.specs.Names.{Found}
 use Rattle.protocol.specs.Calls.{Called}
-use Rattle.step.specs.declared.Answer.{Answer}
+use Rattle.step.specs.Steps.{Answer}
 
 -- the outcome, and the number of the case of a reply in the next byte
 unfoldable pub step_word : Answer → ℕ

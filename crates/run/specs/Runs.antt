@@ -1,7 +1,9 @@
 -- A run over bytes, in each form: what it answers, and the bytes that it leaves. `fits` is whether the lent tally is of its size; a run that
 -- hands its tally back has none lent, and `fits` is true.
-use Rattle.std.specs.Prelude.{Bool, cond, List, ℕ, zero, suc, eqb}
+use Rattle.std.specs.Prelude.{Bool, cond, List, ℕ, zero, suc, eqb, Result, Ok, Err}
+use Rattle.protocol.specs.declared.Refusal.{Refusal}
 use Rattle.protocol.specs.declared.Tally.{Tally}
+use Rattle.protocol.specs.Refusals.{number}
 use Rattle.protocol.specs.Steps.{or_else}
 use Rattle.protocol.specs.Runs.{no_tally, at_step, script_outcome, run}
 use Rattle.layout.specs.declared.form.Mark.{Mark}
@@ -11,7 +13,16 @@ use Rattle.net.specs.View.{view}
 use Rattle.net.specs.Encode.{bytes_as}
 use Rattle.step.specs.Steps.{net_after_step_as}
 use Rattle.run.specs.Tallies.{tally_fits, tally_bytes}
-use Rattle.run.specs.declared.Answer.{Answer}
+
+-- an answer: the outcome number, and the counts
+pub record Answer : Type 0 where
+  pub outcome : ℕ
+  pub tally : Tally
+
+-- what a result tells; "a refusal returns its number with zeros for every other result"
+abbrev pub told : Result Tally Refusal → Answer
+told (Ok t) = record { outcome = 0; tally = t }
+told (Err r) = record { outcome = number r; tally = no_tally }
 
 -- ---- of bytes that are to be a net in the form of this mark
 module _ (m : Mark) (l s : List ℕ) where

@@ -6,11 +6,13 @@ use Prim.Native.Nat.{ℕ, zero, suc, ◌≤◌}
 use native.Mathlib.Omega.{arith}
 use lib.Dec.{eqb}
 use Rattle.bits.proofs.Cases.{by_bool}
+use Rattle.protocol.specs.declared.Case.TheVariants.{Adopted, NotTentative, Unconnected, NotGreater}
+use Rattle.protocol.specs.declared.Replies.{Replies}
 use Rattle.protocol.specs.Net.{Net, request}
 use Rattle.protocol.specs.Rules.{Rule, no_traffic, one_sent, one_lost, oldest}
 use Rattle.protocol.specs.Rules.{tick, ask, refresh, deliver, lose, give_up, drop_child, member, route, rules}
 use Rattle.protocol.specs.Steps.{rule, outcome}
-use Rattle.protocol.specs.Runs.{RunState, then, at_step, after, how_many, hears}
+use Rattle.protocol.specs.Runs.{RunState, case_count, then, at_step, after, how_many, hears}
 use Rattle.protocol.specs.Shaped.{All, none, both}
 use Rattle.protocol.proofs.Laws.Messages.{bit_le}
 use Rattle.protocol.proofs.Steps.Steps.{each-rule}
@@ -81,3 +83,8 @@ pub few : (N : Net) (s : List ℕ) (i : ℕ) → CountsUpTo i (after N s i).tall
 unfolding after
 few N s zero = record { accepted = omega arith; refused = omega arith; sent = omega arith; delivered = omega arith; lost = omega arith; replies = heard-few N s 0 }
 few N s (suc i) = then-few (after N s i) i _ _ _ _ (heard-few N s (suc i)) (few N s i)
+
+-- the count of each case
+pub each_few : (k : ℕ) (r : Replies) → RepliesUpTo k r → (r.adopted ≤ k) × (r.not_tentative ≤ k) × (r.unconnected ≤ k) × (r.not_greater ≤ k)
+unfolding case_count
+each_few k r f = (f Adopted, f NotTentative, f Unconnected, f NotGreater)

@@ -1,10 +1,13 @@
 -- One step more of a run over bytes.
-use mathlib.Core.Path.{◌≡◌, refl, ap, subst, ◌∙◌}
-use mathlib.Core.List.{List}
-use Prim.Native.Nat.{ℕ, ◌+◌, ◌*◌}
+use mathlib.Core.Path.{◌≡◌, refl, sym, ap, subst, ◌∙◌}
+use mathlib.Core.List.{List, ◌++◌}
+use Prim.Native.Nat.{ℕ, ◌+◌, ◌*◌, ◌/◌, ◌≤◌, ◌<◌}
 use native.Mathlib.Numerals.{add-one}
 use lib.Dec.{eqb}
-use lib.ListN.{get_or}
+use Rattle.std.proofs.Common.{length, drop, arith, add-zero, get_or, length-append, length-drop}
+use Rattle.std.proofs.Math.ListN.{get_or-append}
+use Rattle.std.proofs.Math.Seq.{drop-append_seam}
+use Rattle.std.proofs.lemmas.List.{get_or-drop, drop-drop}
 use borrow.Author.Tests.{eqb-true}
 use Rattle.bits.proofs.Cases.{by_bool}
 use Rattle.protocol.specs.declared.Tally.{Tally}
@@ -60,3 +63,26 @@ module _ (m : Mark) (N : Net) (H : Shaped N) (s : List ℕ) where
     turn-tally t t' was is =
         let E = subst (λ (M : Net). Ended (outcome M (k i) (a i) (b i) (c i)) (rule M (k i) (a i) (b i) (c i)) l d l') (after-is-net i l e).1 w in
         rw add-one (is ∙ ap (λ (x : Tally). counted x d) was ∙ counts_step (after N s i) _ _ _ _ l l' d E)
+
+-- the steps that are left of a script from step i on: step i and the others
+module _ (s x t : List ℕ) (i : ℕ) (e : drop (4 * i) s ≡ x ++ t) (four : length x ≡ 4) where
+  pub step-byte : (j : ℕ) → j < 4 → get_or x j 0 ≡ get_or s (4 * i + j) 0
+  step-byte j h = sym (get_or-append x t 0 j (omega arith)) ∙ ap (λ (y : List ℕ). get_or y j 0) (sym e) ∙ get_or-drop (4 * i) s j 0
+
+  pub steps-left : t ≡ drop (4 * (i + 1)) s
+  steps-left =
+      let next : 4 * i + 4 ≡ 4 * (i + 1) = omega arith in
+      sym (drop-append_seam x t) ∙ (λ j. drop (four j) (sym e j)) ∙ drop-drop 4 (4 * i) s ∙ ap (λ (n : ℕ). drop n s) next
+
+  pub step-within : 4 * (i + 1) ≤ length s
+  step-within = omega (arith, length-drop (4 * i) s, ap length e, length-append x t)
+
+  pub step-ends : (l l' : List ℕ) (d : Answer) → StepEnd l (get_or x 0 0) (get_or x 1 0) (get_or x 2 0) (get_or x 3 0) d l'
+      → StepEnd l (get_or s (4 * i) 0) (get_or s (4 * i + 1) 0) (get_or s (4 * i + 2) 0) (get_or s (4 * i + 3) 0) d l'
+  step-ends l l' d w =
+      let first = step-byte 0 (omega arith) ∙ ap (λ (n : ℕ). get_or s n 0) (add-zero (4 * i)) in
+      rw (← first, ← step-byte 1 (omega arith), ← step-byte 2 (omega arith), ← step-byte 3 (omega arith)) w
+
+-- fewer bytes than a step has are left: every step was done
+pub all-done : (s : List ℕ) (i : ℕ) → 4 * i ≤ length s → length (drop (4 * i) s) < 4 → i ≡ length s / 4
+all-done s i h few = omega (arith, length-drop (4 * i) s)

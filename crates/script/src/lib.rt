@@ -5,7 +5,7 @@
 ghost use Rattle.std.specs.Prelude.{◌≡◌, ◌/◌, ◌≤◌, length};
 ghost use Rattle.protocol.specs.Net.{longest_script};
 ghost use Rattle.protocol.specs.Cases.{case_number};
-ghost use Rattle.protocol.specs.Runs.{no_tally, count_case, after};
+ghost use Rattle.protocol.specs.Runs.{count_case, after};
 ghost use Rattle.layout.specs.Marks.{mark_of};
 ghost use Rattle.net.specs.View.{view};
 ghost use Rattle.net.specs.Encode.{bytes_like};
@@ -17,90 +17,54 @@ use action::Answer;
 use layout::form::Mark;
 use protocol::{Case, Replies, Tally};
 
-// No step yet.
-pub fn no_tally() -> Tally
-    ensures { result ≡ no_tally }
-{
-    Tally {
-        accepted: 0,
-        refused: 0,
-        sent: 0,
-        delivered: 0,
-        lost: 0,
-        replies: Replies {
-            adopted: 0,
-            not_tentative: 0,
-            unconnected: 0,
-            not_greater: 0,
-        },
-    }
-}
-
 // One reply more of this case.
+#[tactic(auto, using(crate::proofs::CountsUpTo::each_few), unfolding(protocol::specs::Runs::count_case, protocol::specs::Runs::case_count, protocol::specs::Cases::case_number))]
 fn counted_case(mut r: Replies, case: Case) -> Replies
     requires { RepliesUpTo 4095 r }
     ensures { result ≡ count_case r (case_number case) }
 {
     match case {
-        Case::Adopted => {
-            r.adopted = r.adopted + 1;
-            r
-        }
-        Case::NotTentative => {
-            r.not_tentative = r.not_tentative + 1;
-            r
-        }
-        Case::Unconnected => {
-            r.unconnected = r.unconnected + 1;
-            r
-        }
-        Case::NotGreater => {
-            r.not_greater = r.not_greater + 1;
-            r
-        }
+        Case::Adopted => r.adopted += 1,
+        Case::NotTentative => r.not_tentative += 1,
+        Case::Unconnected => r.unconnected += 1,
+        Case::NotGreater => r.not_greater += 1,
     }
+    r
 }
 
 // One step more.
+#[tactic(auto, unfolding(crate::specs::Inner::Counts::counted, protocol::specs::Runs::count_case, protocol::specs::Runs::case_count, protocol::specs::Cases::case_number))]
 fn counted(mut t: Tally, d: Answer) -> Tally
     requires { CountsUpTo 4095 t }
     ensures { result ≡ counted t d }
 {
     match d {
-        Answer::Refused => {
-            t.refused = t.refused + 1;
-            t
-        }
-        Answer::Changed => {
-            t.accepted = t.accepted + 1;
-            t
-        }
+        Answer::Refused => t.refused += 1,
+        Answer::Changed => t.accepted += 1,
         Answer::Sent => {
-            t.accepted = t.accepted + 1;
-            t.sent = t.sent + 1;
-            t
+            t.accepted += 1;
+            t.sent += 1;
         }
         Answer::Answered => {
-            t.accepted = t.accepted + 1;
-            t.sent = t.sent + 1;
-            t.delivered = t.delivered + 1;
-            t
+            t.accepted += 1;
+            t.sent += 1;
+            t.delivered += 1;
         }
         Answer::Heard(case) => {
-            t.accepted = t.accepted + 1;
-            t.delivered = t.delivered + 1;
+            t.accepted += 1;
+            t.delivered += 1;
             t.replies = counted_case(t.replies, case);
-            t
         }
         Answer::Lost => {
-            t.accepted = t.accepted + 1;
-            t.lost = t.lost + 1;
-            t
+            t.accepted += 1;
+            t.lost += 1;
         }
     }
+    t
 }
 
-// One step of the net, in the form of this mark.
+// One step of the net, in the form of this mark. The numbers are matched as they are, since the customer fixed the form: "One decision by
+// match over action numbers one to nine, with a range arm for unknown ones".
 fn step_in(net: &mut [u8], m: Mark, action: u8, a: u8, b: u8, c: u8) -> Answer
     requires net { IsNet net.old }
     requires m_value { m ≡ mark_of net.old }
@@ -128,20 +92,10 @@ pub fn run_in(net: &mut [u8], m: Mark, script: &[u8]) -> Tally
     ensures { (result ≡ (after (view net.old) script.now (length script.now / 4)).tally)
         × (net.new ≡ bytes_like net.old (after (view net.old) script.now (length script.now / 4)).net) }
 {
-    let n = script.len() / 4;
-    let mut tally = no_tally();
-    let mut i = 0;
-    while i < n {
-        let d = step_in(
-            net,
-            m,
-            script[4 * i],
-            script[4 * i + 1],
-            script[4 * i + 2],
-            script[4 * i + 3],
-        );
+    let mut tally = Tally::default();
+    for step in script.chunks_exact(4) {
+        let d = step_in(net, m, step[0], step[1], step[2], step[3]);
         tally = counted(tally, d);
-        i += 1;
     }
     tally
 }

@@ -3,6 +3,7 @@ use mathlib.Core.Path.{◌≡◌, refl, ap, ◌∙◌}
 use mathlib.Core.Logic.{◌≢◌}
 use mathlib.Core.Bool.{true, false}
 use mathlib.Core.List.{List, [], ◌∷◌}
+use Rattle.std.proofs.Common.{Option, Ok, Err}
 use Prim.Native.Nat.{ℕ}
 use native.Mathlib.Omega.{arith}
 use lib.Dec.{eqb}
@@ -10,6 +11,9 @@ use borrow.Author.Tests.{eq-eqb, ne_eqb, eqb-true}
 use Rattle.bits.proofs.Cases.{by_bool}
 use Rattle.protocol.specs.declared.Case.{Case}
 use Rattle.protocol.specs.declared.Case.TheVariants.{Adopted, NotTentative, Unconnected, NotGreater}
+use Rattle.protocol.specs.declared.Refusal.{Refusal}
+use Rattle.protocol.specs.declared.Refusal.TheVariants.{NotANet}
+use Rattle.protocol.specs.Refusals.{number}
 use Rattle.protocol.specs.Net.{Net, request}
 use Rattle.protocol.specs.Cases.{case_number, no_case}
 use Rattle.protocol.specs.Rules.{Rule, oldest, case_at, tick, ask, refresh, deliver, lose, give_up, drop_child, member, route, rules}
@@ -23,7 +27,7 @@ use Rattle.shape.proofs.Nets.{marked}
 use Rattle.net.specs.View.{view}
 use Rattle.net.specs.Encode.{bytes_as, bytes_like}
 use Rattle.net.proofs.Forms.{view-bytes}
-use Rattle.step.specs.Steps.{step_outcome_as, step_case_as, step_answer_as, net_after_step_as}
+use Rattle.step.specs.Steps.{case_told, told, step_outcome_as, step_case_as, step_answer_as, net_after_step_as}
 use Rattle.step.specs.Inner.Counted.{case_counted}
 
 -- ---- the case is the one that has a count
@@ -87,16 +91,16 @@ module _ (m : Mark) (l : List ℕ) (k a b c : ℕ) where
   unfolding step
   kept s n = rw (ne_eqb _ 0 n) (view-bytes _ l (rw (marked m l s) s))
 
-  pub on-refusal : shaped_as m l ≡ true → O ≢ 0 → {o : ℕ} {l' : List ℕ} → o ≡ O → l' ≡ l
-      → (record { outcome = o; case = 0 } ≡ step_answer_as m l k a b c) × (l' ≡ net_after_step_as m l k a b c)
+  pub on-refusal : shaped_as m l ≡ true → O ≢ 0 → (r : Refusal) {l' : List ℕ} → number r ≡ O → l' ≡ l
+      → (told (Err r) ≡ step_answer_as m l k a b c) × (l' ≡ net_after_step_as m l k a b c)
   unfolding step_outcome_as step_case_as net_after_step_as case_heard
-  on-refusal s n e f = rw (s, ne_eqb _ 0 n) ((λ i. record { outcome = e i; case = 0 }), f)
+  on-refusal s n r e f = rw (s, ne_eqb _ 0 n) ((λ i. record { outcome = e i; case = 0 }), f)
 
-  pub on-net : shaped_as m l ≡ true → O ≡ 0 → {x : ℕ} {l' : List ℕ} → x ≡ case_heard (view l) k a b c → l' ≡ bytes_like l (step (view l) k a b c)
-      → (record { outcome = 0; case = x } ≡ step_answer_as m l k a b c) × (l' ≡ net_after_step_as m l k a b c)
+  pub on-net : shaped_as m l ≡ true → O ≡ 0 → (x : Option Case) {l' : List ℕ} → case_told x ≡ case_heard (view l) k a b c → l' ≡ bytes_like l (step (view l) k a b c)
+      → (told (Ok x) ≡ step_answer_as m l k a b c) × (l' ≡ net_after_step_as m l k a b c)
   unfolding step_outcome_as step_case_as net_after_step_as
-  on-net s z e f = rw (s, z) ((λ i. record { outcome = 0; case = e i }), f ∙ ap (λ (n : Mark). bytes_as n (step (view l) k a b c)) (marked m l s))
+  on-net s z x e f = rw (s, z) ((λ i. record { outcome = 0; case = e i }), f ∙ ap (λ (n : Mark). bytes_as n (step (view l) k a b c)) (marked m l s))
 
-  pub on_none : shaped_as m l ≡ false → (record { outcome = 1; case = 0 } ≡ step_answer_as m l k a b c) × (l ≡ net_after_step_as m l k a b c)
+  pub on_none : shaped_as m l ≡ false → (told (Err NotANet) ≡ step_answer_as m l k a b c) × (l ≡ net_after_step_as m l k a b c)
   unfolding step_outcome_as step_case_as net_after_step_as
   on_none f = rw f (refl, refl)

@@ -1,13 +1,29 @@
 -- A step over bytes, in each form: what it answers, and the bytes that it leaves.
-use Rattle.std.specs.Prelude.{cond, List, ℕ, eqb}
-use Rattle.protocol.specs.Cases.{no_case}
+use Rattle.std.specs.Prelude.{cond, List, ℕ, eqb, Option, Some, None, Result, Ok, Err}
+use Rattle.protocol.specs.declared.Case.{Case}
+use Rattle.protocol.specs.declared.Refusal.{Refusal}
+use Rattle.protocol.specs.Cases.{case_number, no_case}
+use Rattle.protocol.specs.Refusals.{number}
 use Rattle.protocol.specs.Steps.{or_else, outcome, step, case_heard}
 use Rattle.layout.specs.declared.form.Mark.{Mark}
 use Rattle.layout.specs.declared.form.Mark.TheVariants.{Saved}
 use Rattle.shape.specs.Shape.{shaped_as}
 use Rattle.net.specs.View.{view}
 use Rattle.net.specs.Encode.{bytes_as}
-use Rattle.step.specs.declared.Answer.{Answer}
+
+-- an answer: the outcome number, and the number of the case of the reply that was heard
+pub record Answer : Type 0 where
+  pub outcome : ℕ
+  pub case : ℕ
+
+abbrev pub case_told : Option Case → ℕ
+case_told None = no_case
+case_told (Some x) = case_number x
+
+-- what a result tells; "a refusal returns its number with zeros for every other result"
+abbrev pub told : Result (Option Case) Refusal → Answer
+told (Ok heard) = record { outcome = 0; case = case_told heard }
+told (Err r) = record { outcome = number r; case = no_case }
 
 -- 1: "the net is not 15,728 bytes or not well shaped", in the form of this mark; the others are the rules'
 unfoldable pub step_outcome_as : Mark → List ℕ → ℕ → ℕ → ℕ → ℕ → ℕ

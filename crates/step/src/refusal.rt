@@ -2,6 +2,7 @@
 // known to have been refused. (Told by the actions themselves it would be carried through every turn of a run, and cost a run of refusals
 // a tenth of its time.)
 ghost use Rattle.std.specs.Prelude.{◌≡◌, ◌≢◌, cond};
+ghost use Rattle.protocol.specs.Refusals.{number};
 ghost use Rattle.protocol.specs.Rules as rule;
 ghost use Rattle.protocol.specs.Steps.{verdict, outcome};
 ghost use Rattle.layout.specs.Marks.{mark_of};
@@ -10,77 +11,81 @@ ghost use Rattle.access.specs.Inner.Nets.{IsNet};
 
 use action::operands::{of_cable, of_flag, of_group, of_pair, of_position, of_route, of_station};
 use layout::form::Mark;
+use protocol::Refusal;
 
-// 3 where the operands do not fit, and else the only number that is left.
-fn or_operands(fit: bool, k: u8) -> u8
-    ensures { result ≡ cond fit k 3 }
+// 3 where the operands do not fit, and else the only refusal that is left.
+fn or_operands(fit: bool, left: Refusal) -> Refusal
+    ensures { number result ≡ cond fit (number left) 3 }
 {
-    if fit { k } else { 3 }
+    if fit { left } else { Refusal::BadOperand }
 }
 
 // An ask: 3, 4, or 6, since it needs no room for a clock.
-fn of_ask(net: &[u8], m: Mark, g: u8, p: u8, c: u8) -> u8
+#[tactic(auto, unfolding(protocol::specs::Rules::ask, protocol::specs::Steps::verdict))]
+fn of_ask(net: &[u8], m: Mark, g: u8, p: u8, c: u8) -> Refusal
     requires net { IsNet net.now }
     requires m_value { (m ≡ mark_of net.now) × (verdict (rule.ask (view net.now) g p c) ≢ 0) }
-    ensures { result ≡ verdict (rule.ask (view net.now) g p c) }
+    ensures { number result ≡ verdict (rule.ask (view net.now) g p c) }
 {
     if !of_station(net, g, p, c) {
-        return 3;
+        return Refusal::BadOperand;
     }
     let root = access::read::root_of(net, g);
     let q = access::read::route_of(net, p, root);
     if entries::may_ask(root, p, q, access::read::entry_as(net, m, g, p)) {
-        return 6;
+        return Refusal::FullChannel;
     }
-    4
+    Refusal::NotEnabled
 }
 
 // A refresh: the same.
-fn of_refresh(net: &[u8], m: Mark, g: u8, p: u8, c: u8) -> u8
+#[tactic(auto, unfolding(protocol::specs::Rules::refresh, protocol::specs::Steps::verdict))]
+fn of_refresh(net: &[u8], m: Mark, g: u8, p: u8, c: u8) -> Refusal
     requires net { IsNet net.now }
     requires m_value { (m ≡ mark_of net.now) × (verdict (rule.refresh (view net.now) g p c) ≢ 0) }
-    ensures { result ≡ verdict (rule.refresh (view net.now) g p c) }
+    ensures { number result ≡ verdict (rule.refresh (view net.now) g p c) }
 {
     if !of_station(net, g, p, c) {
-        return 3;
+        return Refusal::BadOperand;
     }
     if entries::may_refresh(access::read::entry_as(net, m, g, p)) {
-        return 6;
+        return Refusal::FullChannel;
     }
-    4
+    Refusal::NotEnabled
 }
 
 // A delivery: the same.
-fn of_deliver(net: &[u8], s: u8, d: u8, c: u8) -> u8
+#[tactic(auto, unfolding(protocol::specs::Rules::deliver, protocol::specs::Steps::verdict))]
+fn of_deliver(net: &[u8], s: u8, d: u8, c: u8) -> Refusal
     requires net { IsNet net.now }
     requires c_nonzero { verdict (rule.deliver (view net.now) s d c) ≢ 0 }
-    ensures { result ≡ verdict (rule.deliver (view net.now) s d c) }
+    ensures { number result ≡ verdict (rule.deliver (view net.now) s d c) }
 {
     if !of_cable(net, s, d, c) {
-        return 3;
+        return Refusal::BadOperand;
     }
     if access::read::in_channel(net, s, d) == 0 {
-        return 4;
+        return Refusal::NotEnabled;
     }
-    6
+    Refusal::FullChannel
 }
 
 // Any step. Of a tick only the clock is left, and of the actions that send nothing, only that they are not enabled.
-pub fn refusal(net: &[u8], m: Mark, action: u8, a: u8, b: u8, c: u8) -> u8
+pub fn refusal(net: &[u8], m: Mark, action: u8, a: u8, b: u8, c: u8) -> Refusal
     requires net { IsNet net.now }
     requires m_value { (m ≡ mark_of net.now) × (outcome (view net.now) action a b c ≢ 0) }
-    ensures { result ≡ outcome (view net.now) action a b c }
+    ensures { number result ≡ outcome (view net.now) action a b c }
 {
     match action {
-        1 => or_operands(of_group(net, a, b, c), 5),
+        1 => or_operands(of_group(net, a, b, c), Refusal::LastClock),
         2 => of_ask(net, m, a, b, c),
         3 => of_refresh(net, m, a, b, c),
         4 => of_deliver(net, a, b, c),
-        5 => or_operands(of_position(net, a, b, c), 4),
-        6 => or_operands(of_pair(net, a, b, c), 4),
-        7 => or_operands(of_pair(net, a, b, c), 4),
-        8 => or_operands(of_flag(net, a, b, c), 4),
-        9 => or_operands(of_route(net, a, b, c), 4),
-        0 | 10..=255 => 2,
+        5 => or_operands(of_position(net, a, b, c), Refusal::NotEnabled),
+        6 => or_operands(of_pair(net, a, b, c), Refusal::NotEnabled),
+        7 => or_operands(of_pair(net, a, b, c), Refusal::NotEnabled),
+        8 => or_operands(of_flag(net, a, b, c), Refusal::NotEnabled),
+        9 => or_operands(of_route(net, a, b, c), Refusal::NotEnabled),
+        0 | 10..=255 => Refusal::NotAnAction,
     }
 }

@@ -1,19 +1,16 @@
-use Rattle.std.proofs.Common.{arith}
+use Rattle.std.proofs.Common.{refl, arith}
 use Rattle.text.specs.Text.{row}
-use Rattle.text.proofs.Puts.{◌then◌, within_none, row_more, row-all}
+use Rattle.text.proofs.Adds.{◌then◌, added_none, row_more, row-all}
 use Rattle.listing.specs.Lines.{group_text}
 use Rattle.listing.proofs.lines.group_texts.Goals as goal
 
 pub loop-g-init : goal.loop-g-init
 unfolding row
-loop-g-init c = (omega arith, within_none _ _ _)
+loop-g-init c = added_none _ _
 
 pub loop-g-preserved : goal.loop-g-preserved
 unfolding group_text
-loop-g-preserved c =
-    (omega arith, row_more _ _ c.loop-g.invariant.1 (c.group_line-next.ensures then c.station_lines-next.ensures))
+loop-g-preserved c = row_more _ _ _ refl c.loop-g.invariant (c.group_line.ensures then c.station_lines.ensures)
 
 pub returns : goal.returns
-returns c =
-    let r = c.requires.net in
-    row-all _ _ _ (omega (arith, r)) (omega (arith, r)) c.loop-g.invariant.1
+returns c = row-all _ _ _ (omega arith) (omega (arith, c.requires.net)) c.loop-g.invariant

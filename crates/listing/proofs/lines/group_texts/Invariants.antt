@@ -1,12 +1,9 @@
-use Rattle.std.proofs.Common.{◌≤◌, ◌-◌, ◌*◌}
+use Rattle.std.proofs.Common.{◌*◌}
 use Rattle.net.specs.View.{view}
 use Rattle.text.specs.Text.{each}
-use Rattle.text.specs.Inner.Within.{WroteWithin}
+use Rattle.text.specs.Inner.Added.{Added}
 use Rattle.listing.specs.Lines.{group_text}
 use Rattle.listing.proofs.lines.group_texts.Given as goal
 
 abbrev pub invariant-loop-g : goal.invariant-loop-g
-invariant-loop-g l = (l.g ≤ l.n) × WroteWithin (4087 * l.g) l.initial.out l.out l.at l.next (each l.g (group_text (view l.net)))
-
-abbrev pub decreases-loop-g : goal.decreases-loop-g
-decreases-loop-g l = l.n - l.g
+invariant-loop-g l = Added (4087 * l.g) l.initial.text l.text (each l.g (group_text (view l.net)))

@@ -1,11 +1,9 @@
 use Rattle.std.proofs.Common.{sym}
 use Rattle.text.specs.Text.{text}
-use Rattle.text.proofs.Puts.{◌then◌}
+use Rattle.text.proofs.Adds.{◌then◌}
 use Rattle.listing.specs.Lines.{station_line}
 use Rattle.listing.proofs.lines.station_line.Goals as goal
 
 pub returns : goal.returns
 unfolding station_line text
-returns c =
-    rw (sym c.entry_of-e.ensures)
-    (c.put_filled-next.ensures then c.put_mask_or_dash-next.ensures then c.put_byte.ensures)
+returns c = rw (sym c.entry_of-e.ensures) (c.put_filled.ensures then c.put_mask_or_dash.ensures then c.push.ensures)

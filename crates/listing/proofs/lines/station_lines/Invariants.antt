@@ -1,12 +1,9 @@
-use Rattle.std.proofs.Common.{◌≤◌, ◌-◌, ◌*◌}
+use Rattle.std.proofs.Common.{◌*◌}
 use Rattle.net.specs.View.{view}
 use Rattle.text.specs.Text.{each}
-use Rattle.text.specs.Inner.Within.{WroteWithin}
+use Rattle.text.specs.Inner.Added.{Added}
 use Rattle.listing.specs.Lines.{station_line}
 use Rattle.listing.proofs.lines.station_lines.Given as goal
 
 abbrev pub invariant-loop-p : goal.invariant-loop-p
-invariant-loop-p l = (l.p ≤ l.n) × WroteWithin (251 * l.p) l.initial.out l.out l.at l.next (each l.p (station_line (view l.net) l.g))
-
-abbrev pub decreases-loop-p : goal.decreases-loop-p
-decreases-loop-p l = l.n - l.p
+invariant-loop-p l = Added (251 * l.p) l.initial.text l.text (each l.p (station_line (view l.net) l.g))

@@ -1,38 +1,18 @@
-use Rattle.std.proofs.Common.{◌≤◌, length, sym, ◌∙◌, arith}
-use Rattle.layout.specs.Layout.{plan_length}
-use Rattle.text.proofs.Puts.{within-as}
-use Rattle.listing.proofs.Benches.{long-enough, refused, rest-lent, Listed, listed}
+use Rattle.std.proofs.Common.{◌≡◌, ℕ, ◌≤◌, List, ◌++◌, length, drop, sym, ap, ◌∙◌, zero-add, arith}
+use Rattle.bits.specs.Parts.{Wrote}
+use Rattle.bits.proofs.Parts.{put_whole}
+use Rattle.listing.specs.Bench.{stored_text}
 use Rattle.listing.proofs.report.report.Goals as goal
-use Rattle.listing.proofs.report.report.Goals.{Else-k-ne0, After-run-ran}
 
--- an input that is not refused has a whole plan, and its run can be listed
-long : (c : Else-k-ne0) → plan_length ≤ length c.args.stored.now
-long c = long-enough _ _ (sym c.stored_outcome-k.ensures.0 ∙ c.if-k-ne0.false)
-
-ran : (c : After-run-ran) → Listed c.args.stored.now c.args.beyond c.run-ran.result.tally c.run-ran.new.net
-ran c =
-    let o = c.stored_outcome-k.ensures in
-    let z = c.if-k-ne0.false in
-    listed _ _ _ _ _ _ (sym o.0 ∙ z) (o.1 z) (rest-lent c.args.stored.now) c.run-ran.ensures
-
-pub returns-then-k-ne0 : goal.returns-then-k-ne0
-returns-then-k-ne0 c =
-    let W = c.refused_text.ensures in
-    ((within-as (refused _ _ _ c.stored_outcome-k.ensures.0 c.if-k-ne0.true) W).wrote, omega (arith, W.within))
-
-pub slice_bounds-run-count : goal.slice_bounds-run-count
-slice_bounds-run-count c = omega (arith, long (goal.at.slice_bounds-run-count c).Else-k-ne0)
-
-pub slice_bounds-run-start : goal.slice_bounds-run-start
-slice_bounds-run-start c = omega (arith, long (goal.at.slice_bounds-run-start c).Else-k-ne0)
-
-pub listing-requires-clause-net : goal.listing-requires-clause-net
-listing-requires-clause-net c = (ran (goal.at.listing-requires-clause-net c).After-run-ran).net
-
-pub listing-requires-clause-sent_value : goal.listing-requires-clause-sent_value
-listing-requires-clause-sent_value c = ((ran (goal.at.listing-requires-clause-sent_value c).After-run-ran).left, omega arith)
+-- a text over the front of a buffer
+at_front : (n : ℕ) (o t : List ℕ) → n ≡ length t → n ≤ length o → Wrote o (t ++ drop n o) 0 n t
+at_front n o t e h = record { next = e ∙ sym (zero-add (length t)); bytes = put_whole 0 n o t (sym e) (omega arith) }
 
 pub returns : goal.returns
 returns c =
-    let W = c.listing.ensures in
-    ((within-as (ran (goal.at.returns c).After-run-ran).text W).wrote, omega (arith, W.within))
+    let T : List ℕ = stored_text c.args.stored.now c.args.beyond in
+    let whole : c.text_of.new.text ≡ T = c.text_of.ensures.all ∙ ap (λ (l : List ℕ). l ++ T) c.new-text.ensures in
+    let n : c.len-n.result ≡ length T = c.len-n.ensures ∙ ap length whole in
+    let copied : c.copy_from_slice.new.self ≡ T = c.copy_from_slice.ensures.after ∙ c.as_slice.ensures ∙ whole in
+    let fits = c.text_of.ensures.within in
+    (rw copied (at_front _ _ _ n (omega arith)), omega arith)

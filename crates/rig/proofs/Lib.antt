@@ -1,2 +1,0 @@
--- The laws of the C face.
-pub mod Words

@@ -1,9 +1,0 @@
-use mathlib.Core.Path.{refl}
-use Rattle.step.proofs.refused.Statement.{statement}
-use Rattle.step.proofs.refused.Tie as tie
-
-returns : tie.Need-returns
-returns c = refl
-
-pub refused_spec : {M : Type 1} → statement M
-refused_spec = tie.close (tie.spec returns)
