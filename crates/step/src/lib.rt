@@ -7,6 +7,7 @@ ghost use Rattle.std.specs.Prelude.{◌≡◌};
 ghost use Rattle.step.specs.Inner.Counted.{case_counted};
 ghost use Rattle.step.specs.Steps.{case_told, told, step_answer_as, net_after_step_as, step_answer, net_after_step};
 
+use access::read::NetBytes;
 use layout::form::Mark;
 use protocol::{Case, Refusal, Replies};
 
@@ -47,7 +48,8 @@ pub fn step_as(
     }
     let tally = script::run_in(net, m, &[action, a, b, c]);
     if tally.refused != 0 {
-        return Err(refusal::refusal(net, m, action, a, b, c));
+        let seen = NetBytes { bytes: net, mark: m };
+        return Err(refusal::refusal(&seen, action, a, b, c));
     }
     Ok(case_counted(tally.replies))
 }

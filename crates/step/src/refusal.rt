@@ -5,12 +5,10 @@ ghost use Rattle.std.specs.Prelude.{◌≡◌, ◌≢◌, cond};
 ghost use Rattle.protocol.specs.Refusals.{number};
 ghost use Rattle.protocol.specs.Rules as rule;
 ghost use Rattle.protocol.specs.Steps.{verdict, outcome};
-ghost use Rattle.layout.specs.Marks.{mark_of};
-ghost use Rattle.net.specs.View.{view};
-ghost use Rattle.access.specs.Inner.Nets.{IsNet};
+ghost use Rattle.access.specs.Seen.{net_of};
 
+use access::read::NetBytes;
 use action::operands::{of_cable, of_flag, of_group, of_pair, of_position, of_route, of_station};
-use layout::form::Mark;
 use protocol::Refusal;
 
 // 3 where the operands do not fit, and else the only refusal that is left.
@@ -22,17 +20,16 @@ fn or_operands(fit: bool, left: Refusal) -> Refusal
 
 // An ask: 3, 4, or 6, since it needs no room for a clock.
 #[tactic(auto, unfolding(protocol::specs::Rules::ask, protocol::specs::Steps::verdict))]
-fn of_ask(net: &[u8], m: Mark, g: u8, p: u8, c: u8) -> Refusal
-    requires net { IsNet net.now }
-    requires m_value { (m ≡ mark_of net.now) × (verdict (rule.ask (view net.now) g p c) ≢ 0) }
-    ensures { number result ≡ verdict (rule.ask (view net.now) g p c) }
+fn of_ask(net: &NetBytes, g: u8, p: u8, c: u8) -> Refusal
+    requires { verdict (rule.ask (net_of net.now) g p c) ≢ 0 }
+    ensures { number result ≡ verdict (rule.ask (net_of net.now) g p c) }
 {
     if !of_station(net, g, p, c) {
         return Refusal::BadOperand;
     }
-    let root = access::read::root_of(net, g);
-    let q = access::read::route_of(net, p, root);
-    if entries::may_ask(root, p, q, access::read::entry_as(net, m, g, p)) {
+    let root = net.root_of(g);
+    let q = net.route_of(p, root);
+    if entries::may_ask(root, p, q, net.entry(g, p)) {
         return Refusal::FullChannel;
     }
     Refusal::NotEnabled
@@ -40,15 +37,14 @@ fn of_ask(net: &[u8], m: Mark, g: u8, p: u8, c: u8) -> Refusal
 
 // A refresh: the same.
 #[tactic(auto, unfolding(protocol::specs::Rules::refresh, protocol::specs::Steps::verdict))]
-fn of_refresh(net: &[u8], m: Mark, g: u8, p: u8, c: u8) -> Refusal
-    requires net { IsNet net.now }
-    requires m_value { (m ≡ mark_of net.now) × (verdict (rule.refresh (view net.now) g p c) ≢ 0) }
-    ensures { number result ≡ verdict (rule.refresh (view net.now) g p c) }
+fn of_refresh(net: &NetBytes, g: u8, p: u8, c: u8) -> Refusal
+    requires { verdict (rule.refresh (net_of net.now) g p c) ≢ 0 }
+    ensures { number result ≡ verdict (rule.refresh (net_of net.now) g p c) }
 {
     if !of_station(net, g, p, c) {
         return Refusal::BadOperand;
     }
-    if entries::may_refresh(access::read::entry_as(net, m, g, p)) {
+    if entries::may_refresh(net.entry(g, p)) {
         return Refusal::FullChannel;
     }
     Refusal::NotEnabled
@@ -56,30 +52,28 @@ fn of_refresh(net: &[u8], m: Mark, g: u8, p: u8, c: u8) -> Refusal
 
 // A delivery: the same.
 #[tactic(auto, unfolding(protocol::specs::Rules::deliver, protocol::specs::Steps::verdict))]
-fn of_deliver(net: &[u8], s: u8, d: u8, c: u8) -> Refusal
-    requires net { IsNet net.now }
-    requires c_nonzero { verdict (rule.deliver (view net.now) s d c) ≢ 0 }
-    ensures { number result ≡ verdict (rule.deliver (view net.now) s d c) }
+fn of_deliver(net: &NetBytes, s: u8, d: u8, c: u8) -> Refusal
+    requires { verdict (rule.deliver (net_of net.now) s d c) ≢ 0 }
+    ensures { number result ≡ verdict (rule.deliver (net_of net.now) s d c) }
 {
     if !of_cable(net, s, d, c) {
         return Refusal::BadOperand;
     }
-    if access::read::in_channel(net, s, d) == 0 {
+    if net.in_channel(s, d) == 0 {
         return Refusal::NotEnabled;
     }
     Refusal::FullChannel
 }
 
 // Any step. Of a tick only the clock is left, and of the actions that send nothing, only that they are not enabled.
-pub fn refusal(net: &[u8], m: Mark, action: u8, a: u8, b: u8, c: u8) -> Refusal
-    requires net { IsNet net.now }
-    requires m_value { (m ≡ mark_of net.now) × (outcome (view net.now) action a b c ≢ 0) }
-    ensures { number result ≡ outcome (view net.now) action a b c }
+pub fn refusal(net: &NetBytes, action: u8, a: u8, b: u8, c: u8) -> Refusal
+    requires { outcome (net_of net.now) action a b c ≢ 0 }
+    ensures { number result ≡ outcome (net_of net.now) action a b c }
 {
     match action {
         1 => or_operands(of_group(net, a, b, c), Refusal::LastClock),
-        2 => of_ask(net, m, a, b, c),
-        3 => of_refresh(net, m, a, b, c),
+        2 => of_ask(net, a, b, c),
+        3 => of_refresh(net, a, b, c),
         4 => of_deliver(net, a, b, c),
         5 => or_operands(of_position(net, a, b, c), Refusal::NotEnabled),
         6 => or_operands(of_pair(net, a, b, c), Refusal::NotEnabled),

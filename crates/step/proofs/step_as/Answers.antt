@@ -54,16 +54,17 @@ run_in-tally-requires-clause-net c = is-net c.args.m c.args.net.now (sym c.shape
 pub run_in-tally-requires-clause-m_value : goal.run_in-tally-requires-clause-m_value
 run_in-tally-requires-clause-m_value c = sym (marked _ _ (sym c.shaped_as.ensures ∙ c.if-not-shaped_as.false))
 
-pub refusal-requires-clause-net : goal.refusal-requires-clause-net
-refusal-requires-clause-net c = let a = c.args in
-    let ok = sym c.shaped_as.ensures ∙ c.if-not-shaped_as.false in
-    subst IsNet (sym (same a.m a.net.now ok a.action a.a a.b a.c c.run_in-tally.ensures c.if-tally-ne0.true)) (is-net a.m a.net.now ok)
-
-pub refusal-requires-clause-m_value : goal.refusal-requires-clause-m_value
-refusal-requires-clause-m_value c = let a = c.args in
+-- what was refused is a net still
+pub invariant_of-seen : goal.invariant_of-seen
+invariant_of-seen c = let a = c.args in
     let ok = sym c.shaped_as.ensures ∙ c.if-not-shaped_as.false in
     let was = same a.m a.net.now ok a.action a.a a.b a.c c.run_in-tally.ensures c.if-tally-ne0.true in
-    (sym (marked _ _ ok) ∙ ap mark_of (sym was), still-refused a.m a.net.now ok a.action a.a a.b a.c c.run_in-tally.ensures c.if-tally-ne0.true)
+    record { is_net = subst IsNet (sym was) (is-net a.m a.net.now ok); is_marked = sym (marked _ _ ok) ∙ ap mark_of (sym was) }
+
+pub refusal-requires : goal.refusal-requires
+refusal-requires c = let a = c.args in
+    let ok = sym c.shaped_as.ensures ∙ c.if-not-shaped_as.false in
+    still-refused a.m a.net.now ok a.action a.a a.b a.c c.run_in-tally.ensures c.if-tally-ne0.true
 
 pub returns-then-tally-ne0 : goal.returns-then-tally-ne0
 returns-then-tally-ne0 c = let a = c.args in
