@@ -29,7 +29,6 @@ use Rattle.access.specs.Inner.Nets.{IsNet}
 use Rattle.access.proofs.Laws.{is-net}
 use Rattle.fresh.specs.Fresh.{fresh_outcome, net_after_fresh}
 use Rattle.fresh.proofs.Views.{fresh-view}
-use Rattle.run.specs.declared.Answer as by_value
 use Rattle.run.specs.Runs.{run_answer, net_after_run}
 use Rattle.run.proofs.Theorems.{run-shows, run-tells}
 use Rattle.listing.specs.Lines.{listing, refused_text}
@@ -59,8 +58,10 @@ module _ (stored : List ℕ) (beyond : ℕ) where
     unfolding fresh_outcome
     fresh-is = rw (eq-eqb _ _ long) refl
 
-    pub not-begun : fresh_outcome (plan_part stored) net ≢ 0 → 9 ≡ stored_outcome stored beyond
-    not-begun n = unplanned (is_false (plan_shaped (plan_part stored)) (λ t. n (fresh-is ∙ rw t refl)))
+    pub not-begun : fresh_outcome (plan_part stored) net ≢ 0 → fresh_outcome (plan_part stored) net ≡ stored_outcome stored beyond
+    not-begun n =
+        let f = is_false (plan_shaped (plan_part stored)) (λ t. n (fresh-is ∙ rw t refl)) in
+        fresh-is ∙ rw f (unplanned f)
 
     pub begun : fresh_outcome (plan_part stored) net ≡ 0 → (length_outcome (length stored - plan_length + beyond) ≡ stored_outcome stored beyond)
         × (net_after_fresh (plan_part stored) net ≡ bytes_of (fresh (plan_in (plan_part stored))))
@@ -84,9 +85,9 @@ module _ (stored : List ℕ) (beyond : ℕ) where
     pub text : listing (view l) t ≡ stored_text stored beyond
 
   -- the run of the fresh net
-  module _ (first s : List ℕ) (x : by_value.Answer) (l : List ℕ) (accepted : stored_outcome stored beyond ≡ 0)
+  module _ (first s : List ℕ) (t : Tally) (l : List ℕ) (accepted : stored_outcome stored beyond ≡ 0)
       (made : first ≡ bytes_of (fresh (plan_in (plan_part stored)))) (rest : s ≡ script_part stored)
-      (ran : (x ≡ run_answer first s true) × (l ≡ net_after_run first s true)) where
+      (ran : (t ≡ (run_answer first s true).tally) × (l ≡ net_after_run first s true)) where
     abbrev N : Net
     N = fresh (plan_in (plan_part stored))
 
@@ -103,15 +104,15 @@ module _ (stored : List ℕ) (beyond : ℕ) where
     ran-net : view l ≡ (run N s).net
     ran-net = ap view ran.1 ∙ (run-shows _ first s shape).1 ∙ ap (λ (M : Net). (run M s).net) shows
 
-    ran-tally : x.tally ≡ (run N s).tally
-    ran-tally = ap (λ (y : by_value.Answer). y.tally) ran.0 ∙ run-tells _ first s shape ∙ ap (λ (M : Net). (run M s).tally) shows
+    ran-tally : t ≡ (run N s).tally
+    ran-tally = ran.0 ∙ run-tells _ first s shape ∙ ap (λ (M : Net). (run M s).tally) shows
 
     -- "Messages waiting at the start plus sent equal delivered plus lost plus waiting at the end", and none wait at the start
     conserved : in_channels N + (run N s).tally.sent ≡ (run N s).tally.delivered + (run N s).tally.lost + in_channels (run N s).net
     unfolding run
     conserved = run-conserves N (subst Shaped shows (seen _ first shape)) s (cond (eqb (script_outcome s) 0) (length s / 4) 0)
 
-    pub listed : Listed x.tally l
+    pub listed : Listed t l
     unfolding stored_text
     listed = record {
       net = is-net _ l (ap shaped ran.1 ∙ (run-shows _ first s shape).0);

@@ -2,14 +2,17 @@
 ghost use Rattle.std.specs.Prelude.{◌≡◌, ◌+◌, ◌≤◌, ◌<◌, length};
 ghost use Rattle.bits.specs.Parts.{Wrote};
 ghost use Rattle.protocol.specs.Fresh.{fresh};
+ghost use Rattle.protocol.specs.Refusals.{outcome_of};
 ghost use Rattle.layout.specs.Layout.{net_length};
 ghost use Rattle.net.specs.Encode.{bytes_of};
+ghost use Rattle.run.specs.Runs.{told};
 ghost use Rattle.text.specs.Inner.Added.{Added};
 ghost use Rattle.listing.specs.Bench.{plan_part, text_room, stored_outcome, stored_text};
 ghost use Rattle.forms.specs.Plans.{plan_in};
 
 use crate::lines;
 use layout::offset::{NET_LENGTH, PLAN_LENGTH};
+use protocol::{Refusal, Tally};
 use text::Text;
 
 // `stored_length` and `text_room` of specs/Bench.antt: a plan and the longest script, and room for every text.
@@ -17,18 +20,24 @@ pub const STORED_LENGTH: usize = 16496;
 
 pub const TEXT_ROOM: usize = 16640;
 
-// What the input is refused with, or 0: then the net is fresh from its plan.
-fn stored_outcome(stored: &[u8], beyond: usize, net: &mut [u8]) -> u8
+// What the input is refused with; if it is not, the net is fresh from its plan.
+fn stored_outcome(stored: &[u8], beyond: usize, net: &mut [u8]) -> Result<(), Refusal>
     requires { (beyond < 9223372036854775808) × (length net.old ≡ net_length) }
-    ensures { (result ≡ stored_outcome stored.now beyond) × (result ≡ 0 → net.new ≡ bytes_of (fresh (plan_in (plan_part stored.now)))) }
+    ensures outcome { outcome_of result ≡ stored_outcome stored.now beyond }
+    ensures fresh { outcome_of result ≡ 0 → net.new ≡ bytes_of (fresh (plan_in (plan_part stored.now))) }
 {
     if stored.len() < PLAN_LENGTH {
-        return 9;
+        return Err(Refusal::NotAPlan);
     }
-    if fresh::fresh(&stored[0..PLAN_LENGTH], net) != 0 {
-        return 9;
-    }
-    run::length_outcome(stored.len() - PLAN_LENGTH + beyond)
+    fresh::fresh(&stored[..PLAN_LENGTH], net)?;
+    run::check_length(stored.len() - PLAN_LENGTH + beyond)
+}
+
+// The counts of a run that are listed: none where it was refused.
+fn counts_of(ran: Result<Tally, Refusal>) -> Tally
+    ensures { result ≡ (told ran).tally }
+{
+    ran.unwrap_or_default()
 }
 
 // The text of the report.
@@ -37,12 +46,12 @@ fn text_of(stored: &[u8], beyond: usize, text: &mut Text<TEXT_ROOM>)
     ensures { Added 16561 text.old text.new (stored_text stored.now beyond) }
 {
     let mut net = [0u8; NET_LENGTH];
-    let k = stored_outcome(stored, beyond, &mut net);
-    if k != 0 {
-        lines::refused_text(text, k);
-    } else {
-        let ran = run::run(&mut net, &stored[PLAN_LENGTH..]);
-        lines::listing(&net, ran.tally, text);
+    match stored_outcome(stored, beyond, &mut net) {
+        Ok(()) => {
+            let tally = counts_of(run::run(&mut net, &stored[PLAN_LENGTH..]));
+            lines::listing(&net, tally, text);
+        }
+        Err(k) => lines::refused_text(text, k as u8),
     }
 }
 
