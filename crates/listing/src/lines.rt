@@ -1,12 +1,12 @@
 // The lines of the listing. Each function adds to the end of a text.
 ghost use Rattle.std.specs.Prelude.{◌≡◌, ◌+◌, ◌≤◌, ◌<◌, length};
 ghost use Rattle.protocol.specs.Net.{Net, in_channels};
-ghost use Rattle.net.specs.View.{view};
-ghost use Rattle.access.specs.Inner.Nets.{IsNet};
+ghost use Rattle.access.specs.Seen.{net_of};
 ghost use Rattle.text.specs.Inner.Added.{Added};
 ghost use Rattle.listing.specs.Lines.{run_line, replies_line, station_line, station_lines, group_line, group_texts, listing, refused_text};
 
 use crate::report::TEXT_ROOM;
+use access::read::NetBytes;
 use protocol::{Replies, Tally};
 use text::Text;
 
@@ -33,12 +33,11 @@ fn replies_line(text: &mut Text<TEXT_ROOM>, r: Replies)
 }
 
 // The line of station p in group g.
-fn station_line(net: &[u8], g: u8, p: u8, text: &mut Text<TEXT_ROOM>)
-    requires net { IsNet net.now }
-    requires g_bound { (g < (view net.now).groups) × (p < (view net.now).stations) × (length text.old + 251 ≤ TEXT_ROOM) }
-    ensures { Added 251 text.old text.new (station_line (view net.now) g p) }
+fn station_line(net: &NetBytes, g: u8, p: u8, text: &mut Text<TEXT_ROOM>)
+    requires { (g < (net_of net.now).groups) × (p < (net_of net.now).stations) × (length text.old + 251 ≤ TEXT_ROOM) }
+    ensures { Added 251 text.old text.new (station_line (net_of net.now) g p) }
 {
-    let e = access::read::entry_of(net, g, p);
+    let e = net.entry(g, p);
     text.put_filled(
         b"# parent @ clock # member # children ",
         &[p as u32, e.parent as u32, e.clock, e.member as u32],
@@ -48,45 +47,41 @@ fn station_line(net: &[u8], g: u8, p: u8, text: &mut Text<TEXT_ROOM>)
 }
 
 // The lines of the stations in group g.
-fn station_lines(net: &[u8], g: u8, text: &mut Text<TEXT_ROOM>)
-    requires net { IsNet net.now }
-    requires g_bound { (g < (view net.now).groups) × (length text.old + 4016 ≤ TEXT_ROOM) }
-    ensures { Added 4016 text.old text.new (station_lines (view net.now) g) }
+fn station_lines(net: &NetBytes, g: u8, text: &mut Text<TEXT_ROOM>)
+    requires { (g < (net_of net.now).groups) × (length text.old + 4016 ≤ TEXT_ROOM) }
+    ensures { Added 4016 text.old text.new (station_lines (net_of net.now) g) }
 {
-    for p in 0..access::read::stations(net) {
+    for p in 0..net.stations() {
         station_line(net, g, p, text);
     }
 }
 
 // The line of group g.
-fn group_line(net: &[u8], g: u8, text: &mut Text<TEXT_ROOM>)
-    requires net { IsNet net.now }
-    requires g_bound { (g < (view net.now).groups) × (length text.old + 71 ≤ TEXT_ROOM) }
-    ensures { Added 71 text.old text.new (group_line (view net.now) g) }
+fn group_line(net: &NetBytes, g: u8, text: &mut Text<TEXT_ROOM>)
+    requires { (g < (net_of net.now).groups) × (length text.old + 71 ≤ TEXT_ROOM) }
+    ensures { Added 71 text.old text.new (group_line (net_of net.now) g) }
 {
     text.put_filled_one(b"group # name ", g as u32);
-    text.put_hex(access::read::name_of(net, g));
-    let root = access::read::root_of(net, g);
+    text.put_hex(net.name_of(g));
+    let root = net.root_of(g);
     text.put_filled_one(b" root #\n", root as u32);
 }
 
 // The line of each group, and those of its stations.
-fn group_texts(net: &[u8], text: &mut Text<TEXT_ROOM>)
-    requires net { IsNet net.now }
-    requires room { length text.old + 16348 ≤ TEXT_ROOM }
-    ensures { Added 16348 text.old text.new (group_texts (view net.now)) }
+fn group_texts(net: &NetBytes, text: &mut Text<TEXT_ROOM>)
+    requires { length text.old + 16348 ≤ TEXT_ROOM }
+    ensures { Added 16348 text.old text.new (group_texts (net_of net.now)) }
 {
-    for g in 0..access::read::groups(net) {
+    for g in 0..net.groups() {
         group_line(net, g, text);
         station_lines(net, g, text);
     }
 }
 
 // The listing of a net after a run that began with no message: those sent, and not delivered or lost, are left in channels.
-pub fn listing(net: &[u8], t: Tally, text: &mut Text<TEXT_ROOM>)
-    requires net { IsNet net.now }
-    requires sent_value { (t.sent ≡ t.delivered + t.lost + in_channels (view net.now)) × (length text.old + 16561 ≤ TEXT_ROOM) }
-    ensures { Added 16561 text.old text.new (listing (view net.now) t) }
+pub fn listing(net: &NetBytes, t: Tally, text: &mut Text<TEXT_ROOM>)
+    requires { (t.sent ≡ t.delivered + t.lost + in_channels (net_of net.now)) × (length text.old + 16561 ≤ TEXT_ROOM) }
+    ensures { Added 16561 text.old text.new (listing (net_of net.now) t) }
 {
     run_line(text, t, t.sent - t.delivered - t.lost);
     replies_line(text, t.replies);

@@ -11,6 +11,7 @@ ghost use Rattle.listing.specs.Bench.{plan_part, text_room, stored_outcome, stor
 ghost use Rattle.forms.specs.Plans.{plan_in};
 
 use crate::lines;
+use access::read::NetBytes;
 use layout::offset::{NET_LENGTH, PLAN_LENGTH};
 use protocol::{Refusal, Tally};
 use text::Text;
@@ -49,7 +50,7 @@ fn text_of(stored: &[u8], beyond: usize, text: &mut Text<TEXT_ROOM>)
     match stored_outcome(stored, beyond, &mut net) {
         Ok(()) => {
             let tally = counts_of(run::run(&mut net, &stored[PLAN_LENGTH..]));
-            lines::listing(&net, tally, text);
+            lines::listing(&NetBytes::of(&net), tally, text);
         }
         Err(k) => lines::refused_text(text, k as u8),
     }

@@ -13,4 +13,4 @@ unfolding group_text
 loop-g-preserved c = row_more _ _ _ refl c.loop-g.invariant (c.group_line.ensures then c.station_lines.ensures)
 
 pub returns : goal.returns
-returns c = row-all _ _ _ (omega arith) (omega (arith, c.requires.net)) c.loop-g.invariant
+returns c = row-all _ _ _ (omega arith) (omega (arith, c.args.net.now.is_net)) c.loop-g.invariant

@@ -1,9 +1,9 @@
 use Rattle.std.proofs.Common.{◌*◌}
-use Rattle.net.specs.View.{view}
+use Rattle.access.specs.Seen.{net_of}
 use Rattle.text.specs.Text.{each}
 use Rattle.text.specs.Inner.Added.{Added}
 use Rattle.listing.specs.Lines.{group_text}
 use Rattle.listing.proofs.lines.group_texts.Given as goal
 
 abbrev pub invariant-loop-g : goal.invariant-loop-g
-invariant-loop-g l = Added (4087 * l.g) l.initial.text l.text (each l.g (group_text (view l.net)))
+invariant-loop-g l = Added (4087 * l.g) l.initial.text l.text (each l.g (group_text (net_of l.net)))

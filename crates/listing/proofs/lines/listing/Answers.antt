@@ -1,6 +1,6 @@
 use Rattle.std.proofs.Common.{◌≡◌, ◌-◌, arith}
 use Rattle.protocol.specs.Net.{in_channels}
-use Rattle.net.specs.View.{view}
+use Rattle.access.specs.Seen.{net_of}
 use Rattle.text.proofs.Adds.{◌then◌}
 use Rattle.listing.specs.Lines.{listing}
 use Rattle.listing.proofs.lines.listing.Goals as goal
@@ -9,5 +9,5 @@ pub returns : goal.returns
 unfolding listing
 returns c =
     let t = c.args.t in
-    let left : t.sent - t.delivered - t.lost ≡ in_channels (view c.args.net.now) = omega (arith, c.requires) in
+    let left : t.sent - t.delivered - t.lost ≡ in_channels (net_of c.args.net.now) = omega (arith, c.requires) in
     rw (← left) (c.run_line.ensures then c.replies_line.ensures then c.group_texts.ensures)

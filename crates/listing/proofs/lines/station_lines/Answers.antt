@@ -11,4 +11,4 @@ pub loop-p-preserved : goal.loop-p-preserved
 loop-p-preserved c = row_more _ _ _ refl c.loop-p.invariant c.station_line.ensures
 
 pub returns : goal.returns
-returns c = row-all _ _ _ (omega arith) (omega (arith, c.requires.net)) c.loop-p.invariant
+returns c = row-all _ _ _ (omega arith) (omega (arith, c.args.net.now.is_net)) c.loop-p.invariant

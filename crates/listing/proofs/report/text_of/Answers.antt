@@ -16,7 +16,7 @@ ran c =
     listed _ _ _ _ _ _ o (c.in-Ok.ensures.fresh refl) (rest-lent c.args.stored.now) (c.counts_of-tally.ensures ∙ ap (λ (a : Answer). a.tally) c.run.ensures.0, c.run.ensures.1)
 
 pub returns-in-Ok : goal.returns-in-Ok
-returns-in-Ok c = added-as (ran (goal.at.returns-in-Ok c).After-counts_of-tally).text c.listing.ensures
+returns-in-Ok c = added-as (ran (goal.at.returns-in-Ok c).After-counts_of-tally).text (rw (← c.of.ensures) c.listing.ensures)
 
 pub returns-in-Err : goal.returns-in-Err
 returns-in-Err c =
@@ -29,8 +29,8 @@ slice_bounds-run-count c = omega (arith, long (goal.at.slice_bounds-run-count c)
 pub slice_bounds-run-start : goal.slice_bounds-run-start
 slice_bounds-run-start c = omega (arith, long (goal.at.slice_bounds-run-start c).In-Ok)
 
-pub listing-requires-clause-net : goal.listing-requires-clause-net
-listing-requires-clause-net c = (ran (goal.at.listing-requires-clause-net c).After-counts_of-tally).net
+pub of-requires : goal.of-requires
+of-requires c = (ran (goal.at.of-requires c).After-counts_of-tally).net
 
-pub listing-requires-clause-sent_value : goal.listing-requires-clause-sent_value
-listing-requires-clause-sent_value c = ((ran (goal.at.listing-requires-clause-sent_value c).After-counts_of-tally).left, omega arith)
+pub listing-requires : goal.listing-requires
+listing-requires c = (rw c.of.ensures (ran (goal.at.listing-requires c).After-counts_of-tally).left, omega arith)
