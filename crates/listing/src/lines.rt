@@ -1,5 +1,6 @@
 // The lines of the listing. Each function adds to the end of a text.
 ghost use Rattle.std.specs.Prelude.{◌≡◌, ◌+◌, ◌≤◌, ◌<◌, length};
+ghost use Rattle.protocol.specs.Refusals.{number};
 ghost use Rattle.protocol.specs.Net.{Net, in_channels};
 ghost use Rattle.access.specs.Seen.{net_of};
 ghost use Rattle.text.specs.Inner.Added.{Added};
@@ -7,7 +8,7 @@ ghost use Rattle.listing.specs.Lines.{run_line, replies_line, station_line, stat
 
 use crate::report::TEXT_ROOM;
 use access::read::NetBytes;
-use protocol::{Replies, Tally};
+use protocol::{Refusal, Replies, Tally};
 use text::Text;
 
 // The tally, and how many messages are left in channels.
@@ -40,7 +41,12 @@ fn station_line(net: &NetBytes, g: u8, p: u8, text: &mut Text<TEXT_ROOM>)
     let e = net.entry(g, p);
     text.put_filled(
         b"# parent @ clock # member # children ",
-        &[p as u32, e.parent as u32, e.clock, e.member as u32],
+        &[
+            u32::from(p),
+            u32::from(e.parent),
+            e.clock,
+            u32::from(e.member),
+        ],
     );
     text.put_mask_or_dash(e.children);
     text.push(b'\n');
@@ -61,10 +67,10 @@ fn group_line(net: &NetBytes, g: u8, text: &mut Text<TEXT_ROOM>)
     requires { (g < (net_of net.now).groups) × (length text.old + 71 ≤ TEXT_ROOM) }
     ensures { Added 71 text.old text.new (group_line (net_of net.now) g) }
 {
-    text.put_filled_one(b"group # name ", g as u32);
+    text.put_filled_one(b"group # name ", u32::from(g));
     text.put_hex(net.name_of(g));
     let root = net.root_of(g);
-    text.put_filled_one(b" root #\n", root as u32);
+    text.put_filled_one(b" root #\n", u32::from(root));
 }
 
 // The line of each group, and those of its stations.
@@ -89,9 +95,9 @@ pub fn listing(net: &NetBytes, t: Tally, text: &mut Text<TEXT_ROOM>)
 }
 
 // The refusal, with its number.
-pub fn refused_text(text: &mut Text<TEXT_ROOM>, k: u8)
+pub fn refused_text(text: &mut Text<TEXT_ROOM>, k: Refusal)
     requires { length text.old + 19 ≤ TEXT_ROOM }
-    ensures { Added 19 text.old text.new (refused_text k) }
+    ensures { Added 19 text.old text.new (refused_text (number k)) }
 {
     text.put_filled_one(b"refused #\n", k as u32);
 }

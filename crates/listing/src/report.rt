@@ -52,7 +52,7 @@ fn text_of(stored: &[u8], beyond: usize, text: &mut Text<TEXT_ROOM>)
             let tally = counts_of(run::run(&mut net, &stored[PLAN_LENGTH..]));
             lines::listing(&NetBytes::of(&net), tally, text);
         }
-        Err(k) => lines::refused_text(text, k as u8),
+        Err(k) => lines::refused_text(text, k),
     }
 }
 

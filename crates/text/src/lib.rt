@@ -121,7 +121,7 @@ impl<const ROOM: usize> Text<ROOM> {
         if bits::mask::has(m, p) {
             let follows = start < self.len();
             self.put_byte_if(follows, b',');
-            self.put_number(p as u32);
+            self.put_number(u32::from(p));
         }
     }
 

@@ -1,4 +1,5 @@
 use Rattle.std.proofs.Common.{rules, ◌≤◌, refl, length, sym, ap, ◌∙◌, arith}
+use Rattle.protocol.proofs.Refusals.{number-positive}
 use Rattle.layout.specs.Layout.{plan_length}
 use Rattle.text.proofs.Adds.{added_within, added-as}
 use Rattle.run.specs.Runs.{Answer}
@@ -21,7 +22,7 @@ returns-in-Ok c = added-as (ran (goal.at.returns-in-Ok c).After-counts_of-tally)
 pub returns-in-Err : goal.returns-in-Err
 returns-in-Err c =
     let is = c.in-Err.ensures.outcome in
-    added-as (refused _ _ _ (search rules) (λ z. omega (arith, z))) (added_within c.refused_text.ensures (omega arith))
+    added-as (refused _ _ _ is (λ z. omega (arith, number-positive c.in-Err.k, z))) (added_within c.refused_text.ensures (omega arith))
 
 pub slice_bounds-run-count : goal.slice_bounds-run-count
 slice_bounds-run-count c = omega (arith, long (goal.at.slice_bounds-run-count c).In-Ok)

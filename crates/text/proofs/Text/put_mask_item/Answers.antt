@@ -5,7 +5,7 @@ use Rattle.text.proofs.Text.put_mask_item.Goals as goal
 
 pub returns-then-has : goal.returns-then-has
 unfolding mask_item
-returns-then-has g c = rw (sym c.has.ensures ∙ c.if-has.true, sym c.len.ensures) (c.put_byte_if.ensures then c.put_number.ensures)
+returns-then-has g c = rw (sym c.has.ensures ∙ c.if-has.true, sym c.len.ensures, sym c.from.ensures) (c.put_byte_if.ensures then c.put_number.ensures)
 
 pub returns-else-has : goal.returns-else-has
 unfolding mask_item
