@@ -10,7 +10,6 @@ use Rattle.protocol.specs.Entries.{with_waiting, stops_waiting, adopting, hearin
 use Rattle.protocol.specs.Rules.{oldest, heard, case_at}
 use Rattle.protocol.specs.Shaped.{Shaped}
 use Rattle.protocol.proofs.Laws.Maps.{upd2-hit, set-again}
-use Rattle.layout.specs.declared.form.Mark.{Mark}
 use Rattle.layout.specs.Marks.{mark_of}
 use Rattle.net.specs.View.{view}
 use Rattle.net.specs.Encode.{bytes_like}
@@ -53,7 +52,7 @@ module _ {l : List ℕ} {s d : ℕ} {m : Message} (R : IsNet l) (O : MayDeliver 
   waits-shaped : Shaped waits
   waits-shaped = waited (view l) H s d O m.group (ap (λ (x : Message). x.group) is)
 
-  module _ {k : Mark} {e : Entry} {w : ℕ} (l' : List ℕ) (i : k ≡ mark_of l) (read : e ≡ had) (mask : w ≡ without e.waiting s)
+  module _ {k : _} {e : Entry} {w : ℕ} (l' : List ℕ) (i : k ≡ mark_of l) (read : e ≡ had) (mask : w ≡ without e.waiting s)
       (put : EntryMade k l l' m.group d (λ x. with_waiting x w)) where
     written : l' ≡ bytes_like l waits
     written = made _ R k m.group d _ (λ (x : Entry). with_waiting x w) i group to put
