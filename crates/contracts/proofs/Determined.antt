@@ -6,23 +6,25 @@ use mathlib.Core.Path.{sym, ◌∙◌}
 use Rattle.bits.specs.Parts.{Wrote}
 use Rattle.tree.specs.declared.Reach.{Reach}
 use Rattle.protocol.specs.declared.Tally.{Tally}
+use Rattle.protocol.specs.Refusals.{outcome_of}
 use Rattle.protocol.specs.Runs.{length_outcome}
 use Rattle.plan.specs.Planned.{plan_shaped}
 use Rattle.layout.specs.declared.form.Mark.{Mark}
 use Rattle.layout.specs.declared.form.Mark.TheVariants.{Saved, Working}
 use Rattle.shape.specs.Shape.{shaped_as, shaped}
 use Rattle.fresh.specs.Fresh.{fresh_outcome, net_after_fresh}
-use Rattle.step.specs.Steps.{step_answer_as, net_after_step_as, step_answer, net_after_step}
+use Rattle.step.specs.Steps.{told as told_step, step_answer_as, net_after_step_as, step_answer, net_after_step}
 use Rattle.run.specs.Tallies.{tally_fits}
-use Rattle.run.specs.Runs.{run_outcome_as, net_after_run_as, tally_after_run_as, run_outcome, net_after_run, run_tally, run_answer, tally_after_run}
+use Rattle.run.specs.Runs.{told as told_run, run_outcome_as, net_after_run_as, tally_after_run_as, run_outcome, net_after_run, run_tally, run_answer, tally_after_run}
 use Rattle.convert.specs.Converts.{convert_outcome, after_convert}
-use Rattle.find.specs.Answers.{found_in, answer_of}
+use Rattle.find.specs.Answers.{found_of, found_in}
 use Rattle.visit.specs.Lists.{list_fits}
-use Rattle.call.specs.Answers.{CallEnd, called_in, list_after_call}
-use Rattle.lent.specs.Lists.{called_record, called_on, records_after_call}
+use Rattle.call.specs.Answers.{CallEnd, called_of, called_in, list_after_call}
+use Rattle.lent.specs.Lists.{called_on, records_after_call}
 use Rattle.rig.specs.Face.{step_word, found_word, called_word}
 use Rattle.listing.specs.Bench.{text_room, stored_text}
-use Rattle.contracts.specs.Ways.{Determines, Determines2, Determines3}
+use Rattle.contracts.proofs.Told.{outcome_of-same, told_step-same, told_run-same, found_of-same, called_of-same}
+use Rattle.contracts.specs.Ways.{Refusable, Determines, Determines2, Determines3}
 
 -- two that equal a third
 same : {A : Type 0} {x y d : A} → x ≡ d → y ≡ d → x ≡ y
@@ -38,6 +40,17 @@ two x y e f = λ i. (same e.0 f.0 i, same e.1 f.1 i)
 three : {R A B : Type 0} {d : R} {a : A} {b : B} → Determines3 (λ r p q. (r ≡ d) × (p ≡ a) × (q ≡ b))
 three x y e f = λ i. (same e.0 f.0 i, same e.1 f.1 i, same e.2 f.2 i)
 
+-- and so is a result that is known by what is said to be told of it
+module _ {R T : Type 0} {tells : R → T} (known : (x y : R) → tells x ≡ tells y → x ≡ y) where
+  told-one : {d : T} → Determines (λ r. tells r ≡ d)
+  told-one x y e f = known x y (same e f)
+
+  told-two : {A : Type 0} {d : T} {a : A} → Determines2 (λ r p. (tells r ≡ d) × (p ≡ a))
+  told-two x y e f = λ i. (known x.0 y.0 (same e.0 f.0) i, same e.1 f.1 i)
+
+  told-three : {A B : Type 0} {d : T} {a : A} {b : B} → Determines3 (λ r p q. (tells r ≡ d) × (p ≡ a) × (q ≡ b))
+  told-three x y e f = λ i. (known x.0 y.0 (same e.0 f.0) i, same e.1 f.1 i, same e.2 f.2 i)
+
 -- shape::whole::shaped_as
 pub shaped-as-determined : (s : List ℕ) (m : Mark) → Determines (λ r. r ≡ shaped_as m s)
 shaped-as-determined s m = one
@@ -51,72 +64,72 @@ pub plan-shaped-determined : (s : List ℕ) → Determines (λ r. r ≡ plan_sha
 plan-shaped-determined s = one
 
 -- fresh::fresh
-pub fresh-determined : (plan net : List ℕ) → Determines2 (λ r net'. (r ≡ fresh_outcome plan net) × (net' ≡ net_after_fresh plan net))
-fresh-determined plan net = two
+pub fresh-determined : (plan net : List ℕ) → Determines2 {R = Refusable} (λ r net'. (outcome_of r ≡ fresh_outcome plan net) × (net' ≡ net_after_fresh plan net))
+fresh-determined plan net = told-two outcome_of-same
 
 -- step::step_as
 pub step-as-determined : (net : List ℕ) (m : Mark) (action a b c : ℕ)
-    → Determines2 (λ r net'. (r ≡ step_answer_as m net action a b c) × (net' ≡ net_after_step_as m net action a b c))
-step-as-determined net m action a b c = two
+    → Determines2 (λ r net'. (told_step r ≡ step_answer_as m net action a b c) × (net' ≡ net_after_step_as m net action a b c))
+step-as-determined net m action a b c = told-two told_step-same
 
 -- step::step
 pub step-determined : (net : List ℕ) (action a b c : ℕ)
-    → Determines2 (λ r net'. (r ≡ step_answer net action a b c) × (net' ≡ net_after_step net action a b c))
-step-determined net action a b c = two
+    → Determines2 (λ r net'. (told_step r ≡ step_answer net action a b c) × (net' ≡ net_after_step net action a b c))
+step-determined net action a b c = told-two told_step-same
 
--- run::length_outcome
-pub length-outcome-determined : (n : ℕ) → Determines (λ r. r ≡ length_outcome n)
-length-outcome-determined n = one
+-- run::check_length
+pub check-length-determined : (n : ℕ) → Determines {R = Refusable} (λ r. outcome_of r ≡ length_outcome n)
+check-length-determined n = told-one outcome_of-same
 
 -- run::run
-pub run-determined : (net script : List ℕ) → Determines2 (λ r net'. (r ≡ run_answer net script true) × (net' ≡ net_after_run net script true))
-run-determined net script = two
+pub run-determined : (net script : List ℕ) → Determines2 (λ r net'. (told_run r ≡ run_answer net script true) × (net' ≡ net_after_run net script true))
+run-determined net script = told-two told_run-same
 
 -- run::run_into_as
 pub run-into-as-determined : (net : List ℕ) (m : Mark) (script tally : List ℕ)
-    → Determines3 (λ r net' tally'. (r ≡ run_outcome_as m net script (tally_fits tally))
+    → Determines3 {R = Refusable} (λ r net' tally'. (outcome_of r ≡ run_outcome_as m net script (tally_fits tally))
     × (net' ≡ net_after_run_as m net script (tally_fits tally)) × (tally' ≡ tally_after_run_as m net script tally))
-run-into-as-determined net m script tally = three
+run-into-as-determined net m script tally = told-three outcome_of-same
 
 -- run::run_into
 pub run-into-determined : (net script tally : List ℕ)
-    → Determines3 (λ r net' tally'. (r ≡ run_outcome net script (tally_fits tally))
+    → Determines3 {R = Refusable} (λ r net' tally'. (outcome_of r ≡ run_outcome net script (tally_fits tally))
     × (net' ≡ net_after_run net script (tally_fits tally)) × (tally' ≡ tally_after_run net script tally))
-run-into-determined net script tally = three
+run-into-determined net script tally = told-three outcome_of-same
 
 -- convert::convert
 pub convert-determined : (net : List ℕ) (m : Mark) (out : List ℕ) (n : Mark)
-    → Determines2 (λ r out'. (r ≡ convert_outcome m net out) × (out' ≡ after_convert m n net out))
-convert-determined net m out n = two
+    → Determines2 {R = Refusable} (λ r out'. (outcome_of r ≡ convert_outcome m net out) × (out' ≡ after_convert m n net out))
+convert-determined net m out n = told-two outcome_of-same
 
 -- convert::to_working
 pub to-working-determined : (net work : List ℕ)
-    → Determines2 (λ r work'. (r ≡ convert_outcome Saved net work) × (work' ≡ after_convert Saved Working net work))
-to-working-determined net work = two
+    → Determines2 {R = Refusable} (λ r work'. (outcome_of r ≡ convert_outcome Saved net work) × (work' ≡ after_convert Saved Working net work))
+to-working-determined net work = told-two outcome_of-same
 
 -- convert::to_saved
 pub to-saved-determined : (work net : List ℕ)
-    → Determines2 (λ r net'. (r ≡ convert_outcome Working work net) × (net' ≡ after_convert Working Saved work net))
-to-saved-determined work net = two
+    → Determines2 {R = Refusable} (λ r net'. (outcome_of r ≡ convert_outcome Working work net) × (net' ≡ after_convert Working Saved work net))
+to-saved-determined work net = told-two outcome_of-same
 
 -- find::find
-pub find-determined : (net name : List ℕ) → Determines (λ r. r ≡ answer_of (found_in net name))
-find-determined net name = one
+pub find-determined : (net name : List ℕ) → Determines (λ r. found_of r ≡ found_in net name)
+find-determined net name = told-one found_of-same
 
 -- call::call
 pub call-determined : (net : List ℕ) (g c : ℕ) (out : List ℕ) → Determines2 (λ r out'. CallEnd net g c out r out')
-call-determined net g c out x y e f = λ i. (same e.answer f.answer i, same e.list f.list i)
+call-determined net g c out x y e f = λ i. (called_of-same x.0 y.0 (same e.answer f.answer) i, same e.list f.list i)
 
 -- lent::tally::run
 pub lent-run-determined : (net script : List ℕ) (tally : Tally)
-    → Determines3 (λ r net' tally'. (r ≡ run_outcome net script true)
+    → Determines3 {R = Refusable} (λ r net' tally'. (outcome_of r ≡ run_outcome net script true)
     × (net' ≡ net_after_run net script true) × (tally' ≡ run_tally net script true tally))
-lent-run-determined net script tally = three
+lent-run-determined net script tally = told-three outcome_of-same
 
 -- lent::list::call
 pub lent-call-determined : (net : List ℕ) (g c : ℕ) (list : List Reach)
-    → Determines2 (λ r list'. (r ≡ called_record (called_on net g c (length list))) × (list' ≡ records_after_call net g c list))
-lent-call-determined net g c list = two
+    → Determines2 (λ r list'. (called_of r ≡ called_on net g c (length list)) × (list' ≡ records_after_call net g c list))
+lent-call-determined net g c list = told-two called_of-same
 
 -- rig::kep_fresh
 pub kep-fresh-determined : (plan net : List ℕ) → Determines2 (λ r net'. (r ≡ fresh_outcome plan net) × (net' ≡ net_after_fresh plan net))

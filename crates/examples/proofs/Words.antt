@@ -24,8 +24,7 @@ use Rattle.protocol.proofs.Calls.{tree-rooted, call-copies, reach_few}
 use Rattle.layout.specs.declared.form.Mark.{Mark}
 use Rattle.shape.specs.Shape.{shaped_as, shaped}
 use Rattle.net.specs.View.{view}
-use Rattle.step.specs.declared.Answer.{Answer}
-use Rattle.step.specs.Steps.{step_outcome_as, step_case_as, step_answer_as}
+use Rattle.step.specs.Steps.{Answer, step_outcome_as, step_case_as, step_answer_as}
 use Rattle.find.specs.Answers.{found_in}
 use Rattle.call.specs.Answers.{called_in}
 use Rattle.call.proofs.Ends.{in_both}

@@ -2,7 +2,7 @@
 use Rattle.std.specs.Prelude.{◌≡◌, ◌/◌, ◌%◌, ◌<◌}
 use Rattle.protocol.specs.Names.{Found}
 use Rattle.protocol.specs.Calls.{Called}
-use Rattle.step.specs.declared.Answer.{Answer}
+use Rattle.step.specs.Steps.{Answer}
 use Rattle.rig.specs.Face.{step_word, found_word, called_word}
 
 -- the word of an answer has its values, each in its byte

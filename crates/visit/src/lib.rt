@@ -58,7 +58,8 @@ fn put_reach(out: &mut [u8], at: usize, station: u8, parent: u8, depth: u8)
     out[at + 2] = depth;
 }
 
-// Visits the station p: its own entry, and then its list of children. Answers where the list goes on.
+// Visits the station p: its own entry, and then its list of children. Answers where the list goes on. Document 01 asks for these two
+// visits that call each other.
 #[cycle(visit_children_visit_station)]
 pub fn visit_station(
     net: &NetBytes,
