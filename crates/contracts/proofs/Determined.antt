@@ -8,7 +8,8 @@ use Rattle.tree.specs.declared.Reach.{Reach}
 use Rattle.protocol.specs.declared.Tally.{Tally}
 use Rattle.protocol.specs.Refusals.{outcome_of}
 use Rattle.protocol.specs.Runs.{length_outcome}
-use Rattle.plan.specs.Planned.{plan_shaped}
+use Rattle.layout.specs.declared.front.Front.{Front}
+use Rattle.plan.specs.Planned.{of_version1, planned, plan_shaped}
 use Rattle.layout.specs.declared.form.Mark.{Mark}
 use Rattle.layout.specs.declared.form.Mark.TheVariants.{Saved, Working}
 use Rattle.shape.specs.Shape.{shaped_as, shaped}
@@ -58,6 +59,10 @@ shaped-as-determined s m = one
 -- shape::whole::shaped
 pub shaped-determined : (s : List ℕ) → Determines (λ r. r ≡ shaped s)
 shaped-determined s = one
+
+-- plan::whole::planned
+pub planned-determined : (front : Front) (size : ℕ) (byte7 : ℕ) → Determines (λ r. r ≡ planned front.bytes.now (of_version1 size byte7))
+planned-determined front size byte7 = one
 
 -- plan::whole::plan_shaped
 pub plan-shaped-determined : (s : List ℕ) → Determines (λ r. r ≡ plan_shaped s)
