@@ -53,8 +53,10 @@ fn channel_row_shaped(s: &[u8], n: usize, g: usize, p: usize) -> bool
 {
     let m = neighbours(s, p);
     let row = CHANNELS_AT + CHANNEL_ROW_SIZE * p;
-    (0..n).all(|d| channel_shaped(s, channel_at(p, d), m, g, d))
-        & zeros(s, row + CHANNEL_SIZE * n, row + CHANNEL_ROW_SIZE)
+    (0..n).fold(
+        true,
+        |ok, d| ok & channel_shaped(s, channel_at(p, d), m, g, d),
+    ) & zeros(s, row + CHANNEL_SIZE * n, row + CHANNEL_ROW_SIZE)
 }
 
 pub fn channels_shaped(s: &[u8], n: usize, g: usize) -> bool

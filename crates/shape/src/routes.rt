@@ -30,7 +30,7 @@ fn route_row_shaped(s: &[u8], n: usize, p: usize) -> bool
 {
     let m = neighbours(s, p);
     let row = ROUTES_AT + ROUTE_ROW_SIZE * p;
-    (0..n).all(|d| route_shaped(s, route_at(p, d), m, p, d))
+    (0..n).fold(true, |ok, d| ok & route_shaped(s, route_at(p, d), m, p, d))
         & zeros(s, row + n, row + ROUTE_ROW_SIZE)
 }
 

@@ -56,7 +56,7 @@ fn group_entries_shaped(s: &[u8], m: Mark, n: usize, g: usize, k: usize) -> bool
     requires { (net_length ≤ length s.now) × (k < most_groups) }
     ensures { result ≡ all_below most_stations (entry_cell_shaped s.now n m g k) }
 {
-    (0..MOST_STATIONS).all(|p| entry_cell_shaped(s, m, n, g, k, p))
+    (0..MOST_STATIONS).fold(true, |ok, p| ok & entry_cell_shaped(s, m, n, g, k, p))
 }
 
 pub fn entries_shaped(s: &[u8], m: Mark, n: usize, g: usize) -> bool
