@@ -50,7 +50,7 @@ fn field_at(m: Mark, g: u8, p: u8, o: usize) -> Field
     Field { start, end, at }
 }
 
-// That field, with v in it.
+// That field becomes v: the stretch alone is lent on.
 fn set_field<N: Number>(net: &mut [u8], m: Mark, g: u8, p: u8, o: usize, v: N)
     requires { (length net.old ≡ net_length) × (g < most_groups) × (p < most_stations) × (o + N.width ≤ entry_size) }
     ensures { net.new ≡ splice net.old (entry_at m g p + o) (bytes N.width (N.value v)) }

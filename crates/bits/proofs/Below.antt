@@ -80,6 +80,9 @@ fold_of {steps = steps} {v = v} {s = s} {all = all} g test f y call r ran =
     (e.0 ∙ ap (λ (t : Bool). t && test (v x)) j ∙ sym (fold_push (λ ok z. ok && test z) true ys (v x)), e.1))
     s all true r y.runs refl ran
 
+place : (n k : ℕ) → k < n → get_or (range_with_len 0 n) k 0 ≡ k
+place n k h = get_or-range_with_len 0 n k 0 h ∙ zero-add k
+
 -- what `(0..n).all(..)` answers, where each call of its closure answers the test at its number
 pub all_is : {F : Type 0} (g : Mut F (ℕ × Unit {0}) Bool) (P : ℕ → Bool) (f : F) (n : ℕ)
     → ((i : ℕ) (b : Bool) (f' : F) → Called g f (i, tt) b f' → (b ≡ P i) × (f' ≡ f)) → (s u : Range ℕ) → s ≡ record { start = 0; end = n } → (r : Bool)
@@ -90,16 +93,19 @@ all_is g P f n call s u e r ran =
     answer r (cases_from_all u f r (λ i. P i ≡ true) (λ i. P i ≡ false) ran (YieldsList-from_range 0 n n e (omega arith))
     (λ i q k. let c = call i true q k in (c.1, sym c.0)) (λ i q k. sym (call i false q k).0))
   where
-    long : length (range_with_len 0 n) ≡ n
-    long = length-range_with_len 0 n
-
-    here : (k : ℕ) → k < n → get_or (range_with_len 0 n) k 0 ≡ k
-    here k h = get_or-range_with_len 0 n k 0 h ∙ zero-add k
-
     answer : (b : Bool) → MatchBool b (AllWithin (λ i. P i ≡ true) (range_with_len 0 n) 0 (length (range_with_len 0 n)))
         ((k : ℕ) × (k < length (range_with_len 0 n)) × HoldsAt (λ i. P i ≡ false) (range_with_len 0 n) k)
         → b ≡ all_below n P
-    answer true m = sym (all_of P n (λ k h. subst (λ (i : ℕ). P i ≡ true) (here k h) (m k 0 (omega arith) (omega (arith, long)))))
+    answer true m = sym (all_of P n (λ k h. subst (λ (i : ℕ). P i ≡ true) (place n k h) (m k 0 (omega arith) (omega (arith, length-range_with_len 0 n)))))
     answer false m =
-        let h : m.0 < n = omega (arith, m.1, long) in
-        sym (is_false _ (λ t. clash (all-at P n t m.0 h) (subst (λ (i : ℕ). P i ≡ false) (here m.0 h) (m.2 0))))
+        let h : m.0 < n = omega (arith, m.1, length-range_with_len 0 n) in
+        sym (is_false _ (λ t. clash (all-at P n t m.0 h) (subst (λ (i : ℕ). P i ≡ false) (place n m.0 h) (m.2 0))))
+
+-- and what `(0..n).fold(true, ..)` gives, where each call puts in the test at its number
+pub fold_is : {F : Type 0} (g : Mut F (Bool × (ℕ × Unit {0})) Bool) (P : ℕ → Bool) (f : F) (n : ℕ)
+    → ((a : Bool) (i : ℕ) (b : Bool) (f' : F) → Called g f (a, (i, tt)) b f' → (b ≡ (a && P i)) × (f' ≡ f)) → (s : Range ℕ) → s ≡ record { start = 0; end = n }
+    → (r : Bool) → (xs : List ℕ) × (f' : F) × Drains nat_range_steps s xs × FoldsTo {P = F × Bool} (λ p x q. Called g p.0 (p.1, (x, tt)) q.1 q.0) (f, true) xs (f', r)
+    → r ≡ all_below n P
+fold_is g P f n call s e r ran =
+    fold_of g P f (YieldsList-from_range 0 n n e (omega arith)) call r ran
+    ∙ all_fold P 0 (range_with_len 0 n) n P (length-range_with_len 0 n) (λ i h. ap P (place n i h)) true

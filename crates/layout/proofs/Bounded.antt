@@ -17,7 +17,7 @@ use lib.ListN.{length, get_or-eq_default}
 use borrow.Author.Tests.{eqb-true, eq-eqb, ltb-true, lt-ltb, le-ltb}
 use Rattle.bits.proofs.Cases.{by-lt, and_l, and_r, and_both}
 use Rattle.bits.specs.Below.{all_below}
-use Rattle.bits.proofs.Below.{all_done, all-at, all_of, all_fold}
+use Rattle.bits.proofs.Below.{all-at, all_of, all_fold}
 use Rattle.bits.specs.Parts.{part}
 use Rattle.bits.proofs.Parts.{lent, length_part, get_or-part, part-lent}
 use Rattle.std.specs.List.{fold, zip}

@@ -1,3 +1,2 @@
 pub mod Bounded
 pub mod Facts
-pub mod Marks

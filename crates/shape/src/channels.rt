@@ -54,8 +54,10 @@ fn channel_row_shaped(net: &[u8; NET_LENGTH], n: usize, g: usize, p: usize) -> b
     let front = Front { bytes: net };
     let m = front.neighbours(p);
     let row = CHANNELS_AT + CHANNEL_ROW_SIZE * p;
-    (0..n).all(|d| channel_shaped(net, channel_at(p, d), m, g, d))
-        & zeros(net, row + CHANNEL_SIZE * n, row + CHANNEL_ROW_SIZE)
+    (0..n).fold(
+        true,
+        |ok, d| ok & channel_shaped(net, channel_at(p, d), m, g, d),
+    ) & zeros(net, row + CHANNEL_SIZE * n, row + CHANNEL_ROW_SIZE)
 }
 
 pub fn channels_shaped(net: &[u8; NET_LENGTH], n: usize, g: usize) -> bool

@@ -31,8 +31,10 @@ fn route_row_shaped(net: &[u8; NET_LENGTH], n: usize, p: usize) -> bool
     let front = Front { bytes: net };
     let m = front.neighbours(p);
     let row = ROUTES_AT + ROUTE_ROW_SIZE * p;
-    (0..n).all(|d| route_shaped(net, route_at(p, d), m, p, d))
-        & zeros(net, row + n, row + ROUTE_ROW_SIZE)
+    (0..n).fold(
+        true,
+        |ok, d| ok & route_shaped(net, route_at(p, d), m, p, d),
+    ) & zeros(net, row + n, row + ROUTE_ROW_SIZE)
 }
 
 pub fn routes_shaped(net: &[u8; NET_LENGTH], n: usize) -> bool

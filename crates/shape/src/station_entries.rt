@@ -64,7 +64,7 @@ fn group_entries_shaped(net: &[u8; NET_LENGTH], m: Mark, n: usize, g: usize, k: 
     requires { k < most_groups }
     ensures { result ≡ all_below most_stations (entry_cell_shaped net.now n m g k) }
 {
-    (0..MOST_STATIONS).all(|p| entry_cell_shaped(net, m, n, g, k, p))
+    (0..MOST_STATIONS).fold(true, |ok, p| ok & entry_cell_shaped(net, m, n, g, k, p))
 }
 
 pub fn entries_shaped(net: &[u8; NET_LENGTH], m: Mark, n: usize, g: usize) -> bool
