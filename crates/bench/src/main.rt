@@ -17,7 +17,8 @@ fn some(input: &mut Stdin) -> usize
     }
 }
 
-// Reads until `buf` is full, the input ends or a read fails, and answers how many bytes stand at the start of `buf`.
+// Reads until `buf` is full, the input ends or a read fails, and answers how many bytes stand at the start of `buf`: a turn goes on by as
+// many as came.
 fn read_full(input: &mut Stdin, buf: &mut [u8]) -> usize
     ensures { result ≤ length buf.new }
 {

@@ -1,6 +1,5 @@
-// The ground: big-endian numbers in a slice of bytes, masks of 16 bits, and bytes copied or filled.
+// The ground: big-endian numbers in a slice of bytes, and masks of 16 bits.
 #![tactic(auto)]
 
-pub mod copy;
 pub mod mask;
 pub mod number;

@@ -3,13 +3,6 @@ ghost use Rattle.std.specs.Prelude.{◌≡◌, ℕ, ◌+◌, ◌*◌, ◌≤◌,
 ghost use Rattle.bits.specs.Numbers.{bytes};
 ghost use Rattle.bits.specs.Parts.{number_at, splice};
 
-// A byte as an index.
-pub fn wide(x: u8) -> usize
-    ensures { (result ≡ x) × (result < 256) }
-{
-    x as usize
-}
-
 // Two bytes as one number.
 pub fn join8(a: u8, b: u8) -> u16
     ensures { result ≡ a * 256 + b }
@@ -92,11 +85,4 @@ pub fn put<N: Number>(s: &mut [u8], at: usize, v: N)
     ensures { s.new ≡ splice s.old at (bytes N.width (N.value v)) }
 {
     v.write(s, at);
-}
-
-pub fn put32(s: &mut [u8], at: usize, v: u32)
-    requires { at + 4 ≤ length s.old }
-    ensures { s.new ≡ splice s.old at (bytes 4 v) }
-{
-    put(s, at, v);
 }

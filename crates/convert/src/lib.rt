@@ -65,7 +65,7 @@ pub fn convert(net: &[u8], m: Mark, out: &mut [u8], n: Mark) -> Result<(), Refus
     Ok(())
 }
 
-// From the saved form to the working form.
+// From the saved form to the working form: what C calls.
 pub fn to_working(net: &[u8], work: &mut [u8]) -> Result<(), Refusal>
     ensures { (outcome_of result ≡ convert_outcome Saved net.now work.old)
         × (work.new ≡ after_convert Saved Working net.now work.old) }

@@ -1,4 +1,4 @@
-// 4. Deliver: the oldest message from s to d.
+// 4. Deliver: the oldest message from s to d. Why the net is lent as bytes: access/src/change.rt.
 #![tactic(auto)]
 
 ghost use Rattle.std.specs.Prelude.{◌≡◌, true, ◌<◌};
@@ -28,7 +28,10 @@ fn answer(net: &mut [u8], m: Mark, s: u8, d: u8, g: u8)
     ensures { net.new ≡ bytes_like net.old (answered (take_at (view net.old) s d 0) g s d) }
 {
     access::change::take_at(net, s, d, 0);
-    let seen = NetBytes { bytes: net, mark: m };
+    let seen = NetBytes {
+        bytes: net,
+        mark: m,
+    };
     let root = seen.root_of(g);
     let e = entries::with_child(seen.entry(g, d), s);
     access::change::set_children(net, m, g, d, e.children);
@@ -58,7 +61,10 @@ fn listen(net: &mut [u8], m: Mark, s: u8, d: u8, reply: Message) -> Case
         × (net.new ≡ bytes_like net.old (heard (view net.old) s d reply)) }
 {
     let g = reply.group;
-    let seen = NetBytes { bytes: net, mark: m };
+    let seen = NetBytes {
+        bytes: net,
+        mark: m,
+    };
     let e = seen.entry(g, d);
     access::change::set_waiting(net, m, g, d, bits::mask::without(e.waiting, s));
     let case = entries::case_of(e, s, reply);
@@ -87,7 +93,10 @@ pub fn deliver(net: &mut [u8], m: Mark, s: u8, d: u8, c: u8) -> Answer
     requires m_value { m ≡ mark_of net.old }
     ensures { ActionEnd (rule.deliver (view net.old) s d c) net.old result net.new }
 {
-    let seen = NetBytes { bytes: net, mark: m };
+    let seen = NetBytes {
+        bytes: net,
+        mark: m,
+    };
     if !of_cable(&seen, s, d, c) {
         return Answer::Refused;
     }

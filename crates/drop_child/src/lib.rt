@@ -1,4 +1,4 @@
-// 7. Drop child: it is removed, and the station leaves if it no longer joins.
+// 7. Drop child: it is removed, and the station leaves if it no longer joins. Why the net is lent as bytes: access/src/change.rt.
 #![tactic(auto)]
 
 ghost use Rattle.std.specs.Prelude.{◌≡◌, ◌<◌};
@@ -30,7 +30,10 @@ pub fn drop_child(net: &mut [u8], m: Mark, g: u8, p: u8, x: u8) -> Answer
     requires m_value { m ≡ mark_of net.old }
     ensures { ActionEnd (rule.drop_child (view net.old) g p x) net.old result net.new }
 {
-    let seen = NetBytes { bytes: net, mark: m };
+    let seen = NetBytes {
+        bytes: net,
+        mark: m,
+    };
     if !of_pair(&seen, g, p, x) {
         return Answer::Refused;
     }

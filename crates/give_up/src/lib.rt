@@ -1,4 +1,4 @@
-// 6. Give up: the station stops waiting on the neighbour.
+// 6. Give up: the station stops waiting on the neighbour. Why the net is lent as bytes: access/src/change.rt.
 #![tactic(auto)]
 
 ghost use Rattle.std.specs.Prelude.{◌≡◌, ◌<◌};
@@ -28,7 +28,10 @@ pub fn give_up(net: &mut [u8], m: Mark, g: u8, p: u8, q: u8) -> Answer
     requires m_value { m ≡ mark_of net.old }
     ensures { ActionEnd (rule.give_up (view net.old) g p q) net.old result net.new }
 {
-    let seen = NetBytes { bytes: net, mark: m };
+    let seen = NetBytes {
+        bytes: net,
+        mark: m,
+    };
     if !of_pair(&seen, g, p, q) {
         return Answer::Refused;
     }

@@ -56,7 +56,8 @@ fn text_of(stored: &[u8], beyond: usize, text: &mut Text<TEXT_ROOM>)
     }
 }
 
-// The report on the bytes that are stored of an input, where `beyond` more were counted.
+// The report on the bytes that are stored of an input, where `beyond` more were counted. It is put at the front of a lent buffer, as its
+// theorem has it (`report-determined`).
 pub fn report(stored: &[u8], beyond: usize, out: &mut [u8]) -> usize
     requires { (text_room ≤ length out.old) × (beyond < 9223372036854775808) }
     ensures { Wrote out.old out.new 0 result (stored_text stored.now beyond) × (result ≤ text_room) }

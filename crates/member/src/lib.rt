@@ -1,4 +1,4 @@
-// 8. Member: the flag is set, and the station leaves if it no longer joins.
+// 8. Member: the flag is set, and the station leaves if it no longer joins. Why the net is lent as bytes: access/src/change.rt.
 #![tactic(auto)]
 
 ghost use Rattle.std.specs.Prelude.{◌≡◌};
@@ -18,7 +18,10 @@ pub fn member(net: &mut [u8], m: Mark, g: u8, p: u8, v: u8) -> Answer
     requires m_value { m ≡ mark_of net.old }
     ensures { ActionEnd (rule.member (view net.old) g p v) net.old result net.new }
 {
-    let seen = NetBytes { bytes: net, mark: m };
+    let seen = NetBytes {
+        bytes: net,
+        mark: m,
+    };
     if !of_flag(&seen, g, p, v) {
         return Answer::Refused;
     }

@@ -20,6 +20,9 @@ pub const REPLY: u8 = 2;
 
 pub const LONGEST_SCRIPT: usize = 16384;
 
+// What a station knows of a group, and a message. A flag, a kind and a station that may be nil are the numbers that stand in memory, and no
+// enums: the rules, and the view of any bytes (`net/specs/View.antt`), speak of these records whatever the numbers are, and only a shape
+// (`protocol/specs/Shaped.antt`) says that a flag is below 2 and a kind 1 or 2.
 #[derive(Clone, Copy)]
 pub struct Entry {
     pub parent: u8,

@@ -1,4 +1,4 @@
-// 3. Refresh: a request goes to the parent.
+// 3. Refresh: a request goes to the parent. Why the net is lent as bytes: access/src/change.rt.
 #![tactic(auto)]
 
 ghost use Rattle.std.specs.Prelude.{◌≡◌};
@@ -18,7 +18,10 @@ pub fn refresh(net: &mut [u8], m: Mark, g: u8, p: u8, c: u8) -> Answer
     requires m_value { m ≡ mark_of net.old }
     ensures { ActionEnd (rule.refresh (view net.old) g p c) net.old result net.new }
 {
-    let seen = NetBytes { bytes: net, mark: m };
+    let seen = NetBytes {
+        bytes: net,
+        mark: m,
+    };
     if !of_station(&seen, g, p, c) {
         return Answer::Refused;
     }

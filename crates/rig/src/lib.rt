@@ -1,5 +1,5 @@
-// The C face: every function of the model but the bench program, through numbers and byte buffers (rig/kepalumbi.h). The crate `rig_c`
-// exports them to C.
+// The C face: every function of the model but the bench program, through numbers and byte buffers (rig/kepalumbi.h): so it is here that a
+// refusal, an option and a mark become numbers, and each form has its own functions. The crate `rig_c` exports them to C.
 #![tactic(auto)]
 
 ghost use Rattle.std.specs.Prelude.{◌≡◌};

@@ -68,7 +68,7 @@ pub fn run_into_as(net: &mut [u8], m: Mark, script: &[u8], tally: &mut [u8]) -> 
     Ok(())
 }
 
-// In the saved form.
+// In the saved form: what C calls.
 pub fn run_into(net: &mut [u8], script: &[u8], tally: &mut [u8]) -> Result<(), Refusal>
     ensures { (outcome_of result ≡ run_outcome net.old script.now (tally_fits tally.old))
         × (net.new ≡ net_after_run net.old script.now (tally_fits tally.old))

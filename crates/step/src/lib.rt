@@ -48,13 +48,16 @@ pub fn step_as(
     }
     let tally = script::run_in(net, m, &[action, a, b, c]);
     if tally.refused != 0 {
-        let seen = NetBytes { bytes: net, mark: m };
+        let seen = NetBytes {
+            bytes: net,
+            mark: m,
+        };
         return Err(refusal::refusal(&seen, action, a, b, c));
     }
     Ok(case_counted(tally.replies))
 }
 
-// In the saved form.
+// In the saved form: the function that document 01 names, and that C calls.
 pub fn step(net: &mut [u8], action: u8, a: u8, b: u8, c: u8) -> Result<Option<Case>, Refusal>
     ensures { (told result ≡ step_answer net.old action a b c) × (net.new ≡ net_after_step net.old action a b c) }
 {

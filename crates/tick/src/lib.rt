@@ -1,4 +1,4 @@
-// 1. Tick: the root's clock grows by one.
+// 1. Tick: the root's clock grows by one. Why the net is lent as bytes: access/src/change.rt.
 #![tactic(auto)]
 
 ghost use Rattle.std.specs.Prelude.{◌≡◌};
@@ -19,7 +19,10 @@ pub fn tick(net: &mut [u8], m: Mark, g: u8, b: u8, c: u8) -> Answer
     requires m_value { m ≡ mark_of net.old }
     ensures { ActionEnd (rule.tick (view net.old) g b c) net.old result net.new }
 {
-    let seen = NetBytes { bytes: net, mark: m };
+    let seen = NetBytes {
+        bytes: net,
+        mark: m,
+    };
     if !of_group(&seen, g, b, c) {
         return Answer::Refused;
     }

@@ -1,4 +1,5 @@
-// One entry of the reach list: a station that a call reaches, its parent (255 for the root), and how deep it stands.
+// One entry of the reach list: a station that a call reaches, its parent, and how deep it stands. The root's parent is the number 255, as in
+// the list that C lends, and no option.
 #![tactic(auto)]
 
 #[derive(Clone, Copy)]

@@ -48,7 +48,7 @@ pub fn on_tree(net: &NetBytes, g: u8, c: u8) -> bool
     false
 }
 
-// One entry of the list.
+// One entry of the list. It and the visits write from a place on in the bytes that C lends for the list, and no copy is made of them.
 fn put_reach(out: &mut [u8], at: usize, station: u8, parent: u8, depth: u8)
     requires { at + 3 ≤ length out.old }
     ensures { out.new ≡ splice out.old at (station ∷ parent ∷ depth ∷ []) }

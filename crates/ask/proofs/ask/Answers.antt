@@ -101,10 +101,10 @@ send-requires c =
     let f : Entry → Entry = λ e. with_parents e e.parent c.route_of-q.result in
     let h : Entry → Entry = λ e. with_waiting e c.with.result in
     let both : EntryMade a.m a.net.now c.set_waiting.new.net a.g a.p (λ e. h (f e)) =
-        made_then a.m a.g a.p _ _ _ f h c.set_tentative.ensures c.set_waiting.ensures in
+    made_then a.m a.g a.p _ _ _ f h c.set_tentative.ensures c.set_waiting.ensures in
     let written : c.set_waiting.new.net ≡ bytes_like a.net.now (set_entry N a.g a.p (asking had asked)) =
-        made _ c.requires.net a.m a.g a.p _ (λ e. h (f e)) c.requires.m_value in-range.0 in-range.1 both
-        ∙ (λ i. bytes_like a.net.now (set_entry N a.g a.p (with_waiting (with_parents had had.parent (route i)) (mask i)))) in
+    made _ c.requires.net a.m a.g a.p _ (λ e. h (f e)) c.requires.m_value in-range.0 in-range.1 both
+    ∙ (λ i. bytes_like a.net.now (set_entry N a.g a.p (with_waiting (with_parents had had.parent (route i)) (mask i)))) in
     let room : room? N a.p asked ≡ true = sym (c.has_room.ensures ∙ ap (room? N a.p) route) ∙ c.if-not-has_room.false in
     let sends = may-send _ a.g a.p _ shaped _ written asked in-range.1 near room in
     rw route (record { net = sends.0; s_bound = sends.1 })
@@ -127,10 +127,10 @@ returns c =
     let f : Entry → Entry = λ e. with_parents e e.parent c.route_of-q.result in
     let h : Entry → Entry = λ e. with_waiting e c.with.result in
     let both : EntryMade a.m a.net.now c.set_waiting.new.net a.g a.p (λ e. h (f e)) =
-        made_then a.m a.g a.p _ _ _ f h c.set_tentative.ensures c.set_waiting.ensures in
+    made_then a.m a.g a.p _ _ _ f h c.set_tentative.ensures c.set_waiting.ensures in
     let written : c.set_waiting.new.net ≡ bytes_like a.net.now (set_entry N a.g a.p (asking had asked)) =
-        made _ c.requires.net a.m a.g a.p _ (λ e. h (f e)) c.requires.m_value in-range.0 in-range.1 both
-        ∙ (λ i. bytes_like a.net.now (set_entry N a.g a.p (with_waiting (with_parents had had.parent (route i)) (mask i)))) in
+    made _ c.requires.net a.m a.g a.p _ (λ e. h (f e)) c.requires.m_value in-range.0 in-range.1 both
+    ∙ (λ i. bytes_like a.net.now (set_entry N a.g a.p (with_waiting (with_parents had had.parent (route i)) (mask i)))) in
     let room : room? N a.p asked ≡ true = sym (c.has_room.ensures ∙ ap (room? N a.p) route) ∙ c.if-not-has_room.false in
     ends-0 _ _ refl refl
     (record { operands = operands; enabled = enabled; clock_room = refl; send_room = room })

@@ -57,8 +57,8 @@ adopt-requires c =
     let waits = set_entry N g a.d (stops_waiting had a.s) in
     let mask = c.without.ensures ∙ ap (λ (e : Entry). without e.waiting a.s) c.entry-e.ensures in
     let written : c.set_waiting.new.net ≡ bytes_like a.net.now waits =
-        made _ c.requires.net a.m g a.d _ (λ (e : Entry). with_waiting e c.without.result) c.requires.m_value in-groups to c.set_waiting.ensures
-        ∙ (λ i. bytes_like a.net.now (set_entry N g a.d (with_waiting had (mask i)))) in
+    made _ c.requires.net a.m g a.d _ (λ (e : Entry). with_waiting e c.without.result) c.requires.m_value in-groups to c.set_waiting.ensures
+    ∙ (λ i. bytes_like a.net.now (set_entry N g a.d (with_waiting had (mask i)))) in
     let after = is-net-after _ waits _ (waited N H a.s a.d O g (λ i. (c.requires.reply_value i).group)) written in
     let may : (MayDeliver waits a.s a.d) × (g < N.groups) = (record { between = O.between; some = O.some }, in-groups) in
     let kept = subst (λ (M : Net). (MayDeliver M a.s a.d) × (g < M.groups)) (sym after.1) may in
@@ -78,20 +78,20 @@ returns-then-eq c =
     let waits = set_entry N g a.d (stops_waiting had a.s) in
     let mask = c.without.ensures ∙ ap (λ (e : Entry). without e.waiting a.s) c.entry-e.ensures in
     let written : c.set_waiting.new.net ≡ bytes_like a.net.now waits =
-        made _ c.requires.net a.m g a.d _ (λ (e : Entry). with_waiting e c.without.result) c.requires.m_value in-groups to c.set_waiting.ensures
-        ∙ (λ i. bytes_like a.net.now (set_entry N g a.d (with_waiting had (mask i)))) in
+    made _ c.requires.net a.m g a.d _ (λ (e : Entry). with_waiting e c.without.result) c.requires.m_value in-groups to c.set_waiting.ensures
+    ∙ (λ i. bytes_like a.net.now (set_entry N g a.d (with_waiting had (mask i)))) in
     let after = is-net-after _ waits _ (waited N H a.s a.d O g (λ i. (c.requires.reply_value i).group)) written in
     let told : c.case_of-case.result ≡ case_of had a.s a.reply =
-        c.case_of-case.ensures ∙ ap (λ (e : Entry). case_of e a.s a.reply) c.entry-e.ensures in
+    c.case_of-case.ensures ∙ ap (λ (e : Entry). case_of e a.s a.reply) c.entry-e.ensures in
     let e = stops_waiting had a.s in
     let taken = sym (takes had a.s a.reply c.eq.ensures told) ∙ c.if-eq.true in
     let there : waits.entry g a.d ≡ e = upd2-hit N.entry g a.d e in
     let same : oldest (view c.set_waiting.new.net).channel a.s a.d ≡ a.reply =
-        ap (λ (M : Net). oldest M.channel a.s a.d) after.1 ∙ sym c.requires.reply_value in
+    ap (λ (M : Net). oldest M.channel a.s a.d) after.1 ∙ sym c.requires.reply_value in
     let put = made_after a.m g a.d _ waits _ _ (λ (e : Entry). adopting e a.s (oldest (view c.set_waiting.new.net).channel a.s a.d)) c.requires.m_value
-            c.requires.net.stations_most c.requires.net.groups_most in-groups to written c.adopt.ensures
-        ∙ (λ i. bytes_like a.net.now (set_entry waits g a.d (adopting (there i) a.s (same i))))
-        ∙ ap (bytes_like a.net.now) (set-again N g a.d e (adopting e a.s a.reply)) in
+    c.requires.net.stations_most c.requires.net.groups_most in-groups to written c.adopt.ensures
+    ∙ (λ i. bytes_like a.net.now (set_entry waits g a.d (adopting (there i) a.s (same i))))
+    ∙ ap (bytes_like a.net.now) (set-again N g a.d e (adopting e a.s a.reply)) in
     (told, rw taken put)
 
 pub returns-else-eq : goal.returns-else-eq
@@ -108,8 +108,8 @@ returns-else-eq c =
     let waits = set_entry N g a.d (stops_waiting had a.s) in
     let mask = c.without.ensures ∙ ap (λ (e : Entry). without e.waiting a.s) c.entry-e.ensures in
     let written : c.set_waiting.new.net ≡ bytes_like a.net.now waits =
-        made _ c.requires.net a.m g a.d _ (λ (e : Entry). with_waiting e c.without.result) c.requires.m_value in-groups to c.set_waiting.ensures
-        ∙ (λ i. bytes_like a.net.now (set_entry N g a.d (with_waiting had (mask i)))) in
+    made _ c.requires.net a.m g a.d _ (λ (e : Entry). with_waiting e c.without.result) c.requires.m_value in-groups to c.set_waiting.ensures
+    ∙ (λ i. bytes_like a.net.now (set_entry N g a.d (with_waiting had (mask i)))) in
     let told : c.case_of-case.result ≡ case_of had a.s a.reply =
-        c.case_of-case.ensures ∙ ap (λ (e : Entry). case_of e a.s a.reply) c.entry-e.ensures in
+    c.case_of-case.ensures ∙ ap (λ (e : Entry). case_of e a.s a.reply) c.entry-e.ensures in
     (told, rw (sym (takes had a.s a.reply c.eq.ensures told) ∙ c.if-eq.false) written)

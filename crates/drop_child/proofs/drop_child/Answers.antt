@@ -31,7 +31,7 @@ returns c =
     let f : Entry → Entry = λ x. with_children x e.children in
     let h : Entry → Entry = λ x. cond (eqb a.p root.result || joins e) x (leave x) in
     let both : EntryMade a.m a.net.now c.stay_or_leave.new.net a.g a.p (λ x. h (f x)) =
-        made_then a.m a.g a.p _ _ _ f h c.set_children.ensures c.stay_or_leave.ensures in
+    made_then a.m a.g a.p _ _ _ f h c.set_children.ensures c.stay_or_leave.ensures in
     let put : Entry → Entry = λ x. with_children (N.entry a.g a.p) x.children in
     ends-0 _ _ refl refl
     (record {

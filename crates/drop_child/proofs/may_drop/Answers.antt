@@ -10,7 +10,7 @@ returns-then-has_at-child c =
     let a = c.args in
     let N = net_of a.net.now in
     let elsewhere : (has (N.entry a.g a.p).children a.x && not (eqb (N.entry a.g a.x).parent a.p)) ≡ true =
-        rw (← c.entry-e.ensures, ← c.entry-child.ensures, ← c.from.ensures, ← c.has_at.ensures) c.if-has_at-child.true in
+    rw (← c.entry-e.ensures, ← c.entry-child.ensures, ← c.from.ensures, ← c.has_at.ensures) c.if-has_at-child.true in
     rw elsewhere c.quiet.ensures
 
 pub returns-else-has_at-child : goal.returns-else-has_at-child
@@ -19,5 +19,5 @@ returns-else-has_at-child c =
     let a = c.args in
     let N = net_of a.net.now in
     let elsewhere : (has (N.entry a.g a.p).children a.x && not (eqb (N.entry a.g a.x).parent a.p)) ≡ false =
-        rw (← c.entry-e.ensures, ← c.entry-child.ensures, ← c.from.ensures, ← c.has_at.ensures) c.if-has_at-child.false in
+    rw (← c.entry-e.ensures, ← c.entry-child.ensures, ← c.from.ensures, ← c.has_at.ensures) c.if-has_at-child.false in
     rw elsewhere c.if-has_at-child.false

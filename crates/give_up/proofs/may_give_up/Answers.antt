@@ -9,7 +9,7 @@ unfolding rule.give_up
 returns-then-has_at c =
     let a = c.args in
     let waits : has ((net_of a.net.now).entry a.g a.p).waiting a.q ≡ true =
-        rw (← c.entry.ensures, ← c.from.ensures) (sym c.has_at.ensures ∙ c.if-has_at.true) in
+    rw (← c.entry.ensures, ← c.from.ensures) (sym c.has_at.ensures ∙ c.if-has_at.true) in
     rw waits c.quiet.ensures
 
 pub returns-else-has_at : goal.returns-else-has_at
@@ -17,5 +17,5 @@ unfolding rule.give_up
 returns-else-has_at c =
     let a = c.args in
     let waits : has ((net_of a.net.now).entry a.g a.p).waiting a.q ≡ false =
-        rw (← c.entry.ensures, ← c.from.ensures) (sym c.has_at.ensures ∙ c.if-has_at.false) in
+    rw (← c.entry.ensures, ← c.from.ensures) (sym c.has_at.ensures ∙ c.if-has_at.false) in
     rw waits c.if-has_at.false

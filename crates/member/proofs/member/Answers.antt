@@ -27,7 +27,7 @@ returns c =
     let f : Entry → Entry = λ e. with_member e a.v in
     let h : Entry → Entry = λ x. cond (eqb a.p root.result || joins e) x (leave x) in
     let both : EntryMade a.m a.net.now c.stay_or_leave.new.net a.g a.p (λ e. h (f e)) =
-        made_then a.m a.g a.p _ _ _ f h c.set_member.ensures c.stay_or_leave.ensures in
+    made_then a.m a.g a.p _ _ _ f h c.set_member.ensures c.stay_or_leave.ensures in
     ends-0 _ _ refl refl
     (record { operands = sym c.of_flag.ensures.value ∙ c.if-not-of_flag.false; enabled = refl; clock_room = refl; send_room = refl })
     (made _ c.requires.net a.m a.g a.p _ (λ e. h (f e)) c.requires.m_value in-range.0 in-range.1 both

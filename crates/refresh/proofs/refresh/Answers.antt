@@ -78,10 +78,10 @@ send-requires c =
     let shaped = refresh-entry N H a.g a.p a.c operands enabled in
     let mask = c.with.ensures ∙ ap (λ (e : Entry). with e.waiting e.parent) c.entry-e.ensures in
     let written : c.set_waiting.new.net ≡ bytes_like a.net.now (set_entry N a.g a.p (waits_on (N.entry a.g a.p) (N.entry a.g a.p).parent)) =
-        made _ c.requires.net a.m a.g a.p _ (λ (e : Entry). with_waiting e c.with.result) c.requires.m_value in-range.0 in-range.1 c.set_waiting.ensures
-        ∙ (λ i. bytes_like a.net.now (set_entry N a.g a.p (with_waiting (N.entry a.g a.p) (mask i)))) in
+    made _ c.requires.net a.m a.g a.p _ (λ (e : Entry). with_waiting e c.with.result) c.requires.m_value in-range.0 in-range.1 c.set_waiting.ensures
+    ∙ (λ i. bytes_like a.net.now (set_entry N a.g a.p (with_waiting (N.entry a.g a.p) (mask i)))) in
     let room : room? N a.p (N.entry a.g a.p).parent ≡ true =
-        sym (c.has_room.ensures ∙ ap (λ (e : Entry). room? N a.p e.parent) c.entry-e.ensures) ∙ c.if-not-has_room.false in
+    sym (c.has_room.ensures ∙ ap (λ (e : Entry). room? N a.p e.parent) c.entry-e.ensures) ∙ c.if-not-has_room.false in
     let sends = may-send _ a.g a.p _ shaped _ written (N.entry a.g a.p).parent in-range.1 near room in
     rw c.entry-e.ensures (record { net = sends.0; s_bound = sends.1 })
 
@@ -97,10 +97,10 @@ returns c =
     let shaped = refresh-entry N H a.g a.p a.c operands enabled in
     let mask = c.with.ensures ∙ ap (λ (e : Entry). with e.waiting e.parent) c.entry-e.ensures in
     let written : c.set_waiting.new.net ≡ bytes_like a.net.now (set_entry N a.g a.p (waits_on (N.entry a.g a.p) (N.entry a.g a.p).parent)) =
-        made _ c.requires.net a.m a.g a.p _ (λ (e : Entry). with_waiting e c.with.result) c.requires.m_value in-range.0 in-range.1 c.set_waiting.ensures
-        ∙ (λ i. bytes_like a.net.now (set_entry N a.g a.p (with_waiting (N.entry a.g a.p) (mask i)))) in
+    made _ c.requires.net a.m a.g a.p _ (λ (e : Entry). with_waiting e c.with.result) c.requires.m_value in-range.0 in-range.1 c.set_waiting.ensures
+    ∙ (λ i. bytes_like a.net.now (set_entry N a.g a.p (with_waiting (N.entry a.g a.p) (mask i)))) in
     let room : room? N a.p (N.entry a.g a.p).parent ≡ true =
-        sym (c.has_room.ensures ∙ ap (λ (e : Entry). room? N a.p e.parent) c.entry-e.ensures) ∙ c.if-not-has_room.false in
+    sym (c.has_room.ensures ∙ ap (λ (e : Entry). room? N a.p e.parent) c.entry-e.ensures) ∙ c.if-not-has_room.false in
     ends-0 _ _ refl refl
     (record { operands = operands; enabled = enabled; clock_room = refl; send_room = room })
     (sent _ a.g a.p _ shaped _ written _ _ _ c.send.ensures

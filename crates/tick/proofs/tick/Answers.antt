@@ -39,5 +39,5 @@ returns c =
       send_room = refl;
     })
     (made _ c.requires.net a.m g root.result _ (λ (e : Entry). with_clock e (c.entry-clock.result.clock + 1)) c.requires.m_value
-        (c.of_group.ensures.g_bound c.if-not-of_group.false) root.ensures.1 c.set_clock.ensures
+    (c.of_group.ensures.g_bound c.if-not-of_group.false) root.ensures.1 c.set_clock.ensures
     ∙ (λ i. bytes_like a.net.now (set_entry N g (root.ensures.0 i) (with_clock (N.entry g (root.ensures.0 i)) ((entry i).clock + 1)))))
