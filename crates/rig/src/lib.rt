@@ -78,7 +78,7 @@ pub fn kep_call(net: &[u8], group: u8, station: u8, list: &mut [u8]) -> u32
         × (list.new ≡ list_after_call net.now group station list.old) }
 {
     match call::call(net, group, station, list) {
-        Ok(a) => 256 * u32::from(a.reached) + 65536 * u32::from(a.copies),
+        Ok(called) => 256 * u32::from(called.reached) + 65536 * u32::from(called.copies),
         Err(k) => k as u32,
     }
 }
