@@ -37,5 +37,6 @@ pub fn cables_shaped(front: &Front, n: usize) -> bool
     requires { n ≤ most_stations }
     ensures { result ≡ table front.now.bytes.now masks_at mask_size most_stations n (planned.station_cabled front.now.bytes.now n) }
 {
-    (0..n).all(|p| station_cabled(front, n, p)) & zeros(front.bytes, MASKS_AT + MASK_SIZE * n, ROUTES_AT)
+    (0..n).all(|p| station_cabled(front, n, p))
+        & zeros(front.bytes, MASKS_AT + MASK_SIZE * n, ROUTES_AT)
 }

@@ -40,7 +40,8 @@ pub fn groups_shaped(front: &Front, n: usize, g: usize) -> bool
     requires { g ≤ most_groups }
     ensures { result ≡ table front.now.bytes.now groups_at group_size most_groups g (planned.group_shaped front.now.bytes.now n) }
 {
-    (0..g).all(|k| group_shaped(front, n, k)) & zeros(front.bytes, GROUPS_AT + GROUP_SIZE * g, MASKS_AT)
+    (0..g).all(|k| group_shaped(front, n, k))
+        & zeros(front.bytes, GROUPS_AT + GROUP_SIZE * g, MASKS_AT)
 }
 
 // Whether groups a and b have the same name.
