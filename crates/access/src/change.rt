@@ -14,8 +14,11 @@ ghost use Rattle.access.specs.Inner.Fields.{FieldIn};
 
 use bits::number::{Number, put};
 use layout::form::{Mark, in_stretch, stretch_at, stretch_size};
-use layout::offset::{CHANNEL_SIZE, channel_at, route_at};
+use layout::offset::{CHANNEL_SIZE, NET_LENGTH, channel_at, route_at};
 use protocol::{Entry, Message};
+
+// As many bytes as a net has.
+pub type Whole = [u8; NET_LENGTH];
 
 // An entry, written to the stretch of entries of one group.
 pub fn write_entry(stretch: &mut [u8], at: usize, e: Entry)
@@ -52,8 +55,8 @@ fn field_at(m: Mark, g: u8, p: u8, o: usize) -> Field
 }
 
 // That field becomes v: the stretch alone is lent on.
-fn set_field<N: Number>(net: &mut [u8], m: Mark, g: u8, p: u8, o: usize, v: N)
-    requires { (length net.old ≡ net_length) × (g < most_groups) × (p < most_stations) × (o + N.width ≤ entry_size) }
+fn set_field<N: Number>(net: &mut Whole, m: Mark, g: u8, p: u8, o: usize, v: N)
+    requires { (g < most_groups) × (p < most_stations) × (o + N.width ≤ entry_size) }
     ensures { net.new ≡ splice net.old (entry_at m g p + o) (bytes N.width (N.value v)) }
 {
     let Field { start, end, at } = field_at(m, g, p, o);
@@ -61,55 +64,55 @@ fn set_field<N: Number>(net: &mut [u8], m: Mark, g: u8, p: u8, o: usize, v: N)
 }
 
 // Another parent of station p in group g.
-pub fn set_parent(net: &mut [u8], m: Mark, g: u8, p: u8, q: u8)
-    requires { (length net.old ≡ net_length) × (g < most_groups) × (p < most_stations) }
+pub fn set_parent(net: &mut Whole, m: Mark, g: u8, p: u8, q: u8)
+    requires { (g < most_groups) × (p < most_stations) }
     ensures { EntryMade m net.old net.new g p (λ e. with_parents e q e.tentative) }
 {
     set_field(net, m, g, p, 0, q);
 }
 
 // Another tentative parent.
-pub fn set_tentative(net: &mut [u8], m: Mark, g: u8, p: u8, q: u8)
-    requires { (length net.old ≡ net_length) × (g < most_groups) × (p < most_stations) }
+pub fn set_tentative(net: &mut Whole, m: Mark, g: u8, p: u8, q: u8)
+    requires { (g < most_groups) × (p < most_stations) }
     ensures { EntryMade m net.old net.new g p (λ e. with_parents e e.parent q) }
 {
     set_field(net, m, g, p, 1, q);
 }
 
 // The member flag.
-pub fn set_member(net: &mut [u8], m: Mark, g: u8, p: u8, v: u8)
-    requires { (length net.old ≡ net_length) × (g < most_groups) × (p < most_stations) }
+pub fn set_member(net: &mut Whole, m: Mark, g: u8, p: u8, v: u8)
+    requires { (g < most_groups) × (p < most_stations) }
     ensures { EntryMade m net.old net.new g p (λ e. with_member e v) }
 {
     set_field(net, m, g, p, 2, v);
 }
 
 // Another clock.
-pub fn set_clock(net: &mut [u8], m: Mark, g: u8, p: u8, clock: u32)
-    requires { (length net.old ≡ net_length) × (g < most_groups) × (p < most_stations) }
+pub fn set_clock(net: &mut Whole, m: Mark, g: u8, p: u8, clock: u32)
+    requires { (g < most_groups) × (p < most_stations) }
     ensures { EntryMade m net.old net.new g p (λ e. with_clock e clock) }
 {
     set_field(net, m, g, p, 4, clock);
 }
 
 // Other children.
-pub fn set_children(net: &mut [u8], m: Mark, g: u8, p: u8, children: u16)
-    requires { (length net.old ≡ net_length) × (g < most_groups) × (p < most_stations) }
+pub fn set_children(net: &mut Whole, m: Mark, g: u8, p: u8, children: u16)
+    requires { (g < most_groups) × (p < most_stations) }
     ensures { EntryMade m net.old net.new g p (λ e. with_children e children) }
 {
     set_field(net, m, g, p, 8, children);
 }
 
 // The station waits on these from now on.
-pub fn set_waiting(net: &mut [u8], m: Mark, g: u8, p: u8, waiting: u16)
-    requires { (length net.old ≡ net_length) × (g < most_groups) × (p < most_stations) }
+pub fn set_waiting(net: &mut Whole, m: Mark, g: u8, p: u8, waiting: u16)
+    requires { (g < most_groups) × (p < most_stations) }
     ensures { EntryMade m net.old net.new g p (λ e. with_waiting e waiting) }
 {
     set_field(net, m, g, p, 10, waiting);
 }
 
 // Another route from p towards d.
-pub fn set_route(net: &mut [u8], p: u8, d: u8, q: u8)
+pub fn set_route(net: &mut Whole, p: u8, d: u8, q: u8)
     requires net { IsNet net.old }
     requires p_bound { (p < (view net.old).stations) × (d < (view net.old).stations) }
     ensures { net.new ≡ bytes_like net.old (set_route (view net.old) p d q) }
@@ -119,7 +122,7 @@ pub fn set_route(net: &mut [u8], p: u8, d: u8, q: u8)
 }
 
 // The message at position i from s to d is taken out.
-pub fn take_at(net: &mut [u8], s: u8, d: u8, i: u8)
+pub fn take_at(net: &mut Whole, s: u8, d: u8, i: u8)
     requires net { IsNet net.old }
     requires s_bound { (s < (view net.old).stations) × (d < (view net.old).stations) × (i < length ((view net.old).channel s d)) }
     ensures { net.new ≡ bytes_like net.old (take_at (view net.old) s d i) }
@@ -129,7 +132,7 @@ pub fn take_at(net: &mut [u8], s: u8, d: u8, i: u8)
 }
 
 // A message goes out from s to d.
-pub fn send(net: &mut [u8], s: u8, d: u8, m: Message)
+pub fn send(net: &mut Whole, s: u8, d: u8, m: Message)
     requires net { IsNet net.old }
     requires s_bound { (s < (view net.old).stations) × (d < (view net.old).stations) × (length ((view net.old).channel s d) < capacity) }
     ensures { net.new ≡ bytes_like net.old (send (view net.old) s d m) }

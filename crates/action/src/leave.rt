@@ -5,12 +5,13 @@ ghost use Rattle.protocol.specs.Entries.{joins, leave};
 ghost use Rattle.layout.specs.Layout.{net_length};
 ghost use Rattle.access.specs.Inner.Nets.{EntryMade};
 
+use access::change::Whole;
 use layout::form::Mark;
 use protocol::{Entry, NIL};
 
 // Station p has the entry e in group g now: it stays if it is the root, or joins, and else has no parent from now on, and asks for none.
-pub fn stay_or_leave(net: &mut [u8], m: Mark, g: u8, p: u8, root: u8, e: Entry)
-    requires { (length net.old ≡ net_length) × (g < most_groups) × (p < most_stations) }
+pub fn stay_or_leave(net: &mut Whole, m: Mark, g: u8, p: u8, root: u8, e: Entry)
+    requires { (g < most_groups) × (p < most_stations) }
     ensures { EntryMade m net.old net.new g p (λ x. cond (eqb p root || joins e) x (leave x)) }
 {
     if !entries::stays(root, p, e) {

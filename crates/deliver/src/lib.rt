@@ -13,6 +13,7 @@ ghost use Rattle.access.specs.Inner.Nets.{IsNet, EntryMade};
 ghost use Rattle.action.specs.Inner.Ends.{ActionEnd};
 ghost use Rattle.deliver.specs.Inner.MayDeliver.{MayDeliver};
 
+use access::change::Whole;
 use access::read::NetBytes;
 use action::Answer;
 use action::operands::of_cable;
@@ -20,7 +21,7 @@ use layout::form::Mark;
 use protocol::{Case, Message, REQUEST};
 
 // A request is answered: the receiver lists the sender, and replies.
-fn answer(net: &mut [u8], m: Mark, s: u8, d: u8, g: u8)
+fn answer(net: &mut Whole, m: Mark, s: u8, d: u8, g: u8)
     requires net { IsNet net.old }
     requires m_value { m ≡ mark_of net.old }
     requires may_deliver { MayDeliver (view net.old) s d }
@@ -40,7 +41,7 @@ fn answer(net: &mut [u8], m: Mark, s: u8, d: u8, g: u8)
 
 // The sender of a reply is adopted: the clock of its reply is the receiver's from now on, and it is the parent. The reply is read again
 // where it stands, so that the compiler moves its clock as one number.
-fn adopt(net: &mut [u8], m: Mark, s: u8, d: u8, g: u8)
+fn adopt(net: &mut Whole, m: Mark, s: u8, d: u8, g: u8)
     requires net { IsNet net.old }
     requires may_deliver { MayDeliver (view net.old) s d }
     requires g_bound { g < (view net.old).groups }
@@ -52,7 +53,7 @@ fn adopt(net: &mut [u8], m: Mark, s: u8, d: u8, g: u8)
 }
 
 // What a reply makes of the receiver's entry: it waits no longer, and may adopt the sender. Which case holds is the answer.
-fn listen(net: &mut [u8], m: Mark, s: u8, d: u8, reply: Message) -> Case
+fn listen(net: &mut Whole, m: Mark, s: u8, d: u8, reply: Message) -> Case
     requires net { IsNet net.old }
     requires m_value { m ≡ mark_of net.old }
     requires may_deliver { MayDeliver (view net.old) s d }
@@ -75,7 +76,7 @@ fn listen(net: &mut [u8], m: Mark, s: u8, d: u8, reply: Message) -> Case
 }
 
 // A reply is heard, and is gone then.
-fn hear(net: &mut [u8], m: Mark, s: u8, d: u8, reply: Message) -> Case
+fn hear(net: &mut Whole, m: Mark, s: u8, d: u8, reply: Message) -> Case
     requires net { IsNet net.old }
     requires m_value { m ≡ mark_of net.old }
     requires may_deliver { MayDeliver (view net.old) s d }
@@ -88,7 +89,7 @@ fn hear(net: &mut [u8], m: Mark, s: u8, d: u8, reply: Message) -> Case
     case
 }
 
-pub fn deliver(net: &mut [u8], m: Mark, s: u8, d: u8, c: u8) -> Answer
+pub fn deliver(net: &mut Whole, m: Mark, s: u8, d: u8, c: u8) -> Answer
     requires net { IsNet net.old }
     requires m_value { m ≡ mark_of net.old }
     ensures { ActionEnd (rule.deliver (view net.old) s d c) net.old result net.new }

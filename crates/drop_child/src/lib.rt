@@ -10,6 +10,7 @@ ghost use Rattle.access.specs.Inner.Nets.{IsNet};
 ghost use Rattle.access.specs.Seen.{net_of};
 ghost use Rattle.action.specs.Inner.Ends.{ActionEnd};
 
+use access::change::Whole;
 use access::read::NetBytes;
 use action::Answer;
 use action::operands::of_pair;
@@ -25,7 +26,7 @@ fn may_drop(net: &NetBytes, g: u8, p: u8, x: u8) -> bool
     (bits::mask::has_at(e.children, usize::from(x)) & (child.parent != p)) && net.quiet(g, x, p)
 }
 
-pub fn drop_child(net: &mut [u8], m: Mark, g: u8, p: u8, x: u8) -> Answer
+pub fn drop_child(net: &mut Whole, m: Mark, g: u8, p: u8, x: u8) -> Answer
     requires net { IsNet net.old }
     requires m_value { m ≡ mark_of net.old }
     ensures { ActionEnd (rule.drop_child (view net.old) g p x) net.old result net.new }

@@ -10,6 +10,7 @@ ghost use Rattle.access.specs.Inner.Nets.{IsNet};
 ghost use Rattle.access.specs.Seen.{net_of};
 ghost use Rattle.action.specs.Inner.Ends.{ActionEnd};
 
+use access::change::Whole;
 use access::read::NetBytes;
 use action::Answer;
 use action::operands::of_pair;
@@ -23,7 +24,7 @@ fn may_give_up(net: &NetBytes, g: u8, p: u8, q: u8) -> bool
     bits::mask::has_at(net.entry(g, p).waiting, usize::from(q)) && net.quiet(g, p, q)
 }
 
-pub fn give_up(net: &mut [u8], m: Mark, g: u8, p: u8, q: u8) -> Answer
+pub fn give_up(net: &mut Whole, m: Mark, g: u8, p: u8, q: u8) -> Answer
     requires net { IsNet net.old }
     requires m_value { m ≡ mark_of net.old }
     ensures { ActionEnd (rule.give_up (view net.old) g p q) net.old result net.new }

@@ -6,11 +6,12 @@ ghost use Rattle.net.specs.View.{view};
 ghost use Rattle.access.specs.Inner.Nets.{IsNet};
 ghost use Rattle.action.specs.Inner.Ends.{ActionEnd};
 
+use access::change::Whole;
 use access::read::NetBytes;
 use action::Answer;
 use action::operands::of_position;
 
-pub fn lose(net: &mut [u8], s: u8, d: u8, i: u8) -> Answer
+pub fn lose(net: &mut Whole, s: u8, d: u8, i: u8) -> Answer
     requires { IsNet net.old }
     ensures { ActionEnd (rule.lose (view net.old) s d i) net.old result net.new }
 {

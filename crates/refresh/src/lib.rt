@@ -8,12 +8,13 @@ ghost use Rattle.net.specs.View.{view};
 ghost use Rattle.access.specs.Inner.Nets.{IsNet};
 ghost use Rattle.action.specs.Inner.Ends.{ActionEnd};
 
+use access::change::Whole;
 use access::read::NetBytes;
 use action::Answer;
 use action::operands::of_station;
 use layout::form::Mark;
 
-pub fn refresh(net: &mut [u8], m: Mark, g: u8, p: u8, c: u8) -> Answer
+pub fn refresh(net: &mut Whole, m: Mark, g: u8, p: u8, c: u8) -> Answer
     requires net { IsNet net.old }
     requires m_value { m ≡ mark_of net.old }
     ensures { ActionEnd (rule.refresh (view net.old) g p c) net.old result net.new }

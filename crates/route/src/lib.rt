@@ -6,11 +6,12 @@ ghost use Rattle.net.specs.View.{view};
 ghost use Rattle.access.specs.Inner.Nets.{IsNet};
 ghost use Rattle.action.specs.Inner.Ends.{ActionEnd};
 
+use access::change::Whole;
 use access::read::NetBytes;
 use action::Answer;
 use action::operands::of_route;
 
-pub fn route(net: &mut [u8], p: u8, d: u8, q: u8) -> Answer
+pub fn route(net: &mut Whole, p: u8, d: u8, q: u8) -> Answer
     requires { IsNet net.old }
     ensures { ActionEnd (rule.route (view net.old) p d q) net.old result net.new }
 {

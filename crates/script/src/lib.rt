@@ -13,6 +13,7 @@ ghost use Rattle.access.specs.Inner.Nets.{IsNet};
 ghost use Rattle.script.specs.Inner.Ends.{StepEnd};
 ghost use Rattle.script.specs.Inner.Counts.{counted, RepliesUpTo, CountsUpTo};
 
+use access::change::Whole;
 use action::Answer;
 use layout::form::Mark;
 use protocol::{Case, Replies, Tally};
@@ -65,7 +66,7 @@ fn counted(mut t: Tally, d: Answer) -> Tally
 
 // One step of the net, in the form of this mark. The numbers are matched as they are, since the customer fixed the form: "One decision by
 // match over action numbers one to nine, with a range arm for unknown ones".
-fn step_in(net: &mut [u8], m: Mark, action: u8, a: u8, b: u8, c: u8) -> Answer
+fn step_in(net: &mut Whole, m: Mark, action: u8, a: u8, b: u8, c: u8) -> Answer
     requires net { IsNet net.old }
     requires m_value { m ≡ mark_of net.old }
     ensures { StepEnd net.old action a b c result net.new }
@@ -85,7 +86,7 @@ fn step_in(net: &mut [u8], m: Mark, action: u8, a: u8, b: u8, c: u8) -> Answer
 }
 
 // Every step of the script: the shape is tested by the caller, once.
-pub fn run_in(net: &mut [u8], m: Mark, script: &[u8]) -> Tally
+pub fn run_in(net: &mut Whole, m: Mark, script: &[u8]) -> Tally
     requires net { IsNet net.old }
     requires m_value { m ≡ mark_of net.old }
     requires script_len_bound { length script.now ≤ longest_script }

@@ -8,13 +8,14 @@ ghost use Rattle.net.specs.View.{view};
 ghost use Rattle.access.specs.Inner.Nets.{IsNet};
 ghost use Rattle.action.specs.Inner.Ends.{ActionEnd};
 
+use access::change::Whole;
 use access::read::NetBytes;
 use action::Answer;
 use action::operands::of_group;
 use layout::form::Mark;
 use protocol::LARGEST_CLOCK;
 
-pub fn tick(net: &mut [u8], m: Mark, g: u8, b: u8, c: u8) -> Answer
+pub fn tick(net: &mut Whole, m: Mark, g: u8, b: u8, c: u8) -> Answer
     requires net { IsNet net.old }
     requires m_value { m ≡ mark_of net.old }
     ensures { ActionEnd (rule.tick (view net.old) g b c) net.old result net.new }

@@ -1,4 +1,4 @@
-use Rattle.std.proofs.Common.{◌≡◌, ◌∙◌, subst, rules}
+use Rattle.std.proofs.Common.{◌≡◌, ◌∙◌, subst}
 use Rattle.protocol.specs.declared.Entry.{Entry}
 use Rattle.protocol.specs.declared.Message.{Message}
 use Rattle.protocol.specs.Entries.{with_parents, with_clock, adopting}
@@ -28,8 +28,7 @@ pub set_parent-requires : goal.set_parent-requires
 set_parent-requires c =
     let a = c.args in
     let H = seen _ _ c.requires.net.shape in
-    let o = own _ c.requires.net _ _ c.requires.g_bound (receiver (view a.net.now) H a.s a.d c.requires.may_deliver) in
-    (search rules, o.1, o.2)
+    own _ c.requires.net _ _ c.requires.g_bound (receiver (view a.net.now) H a.s a.d c.requires.may_deliver)
 
 pub returns : goal.returns
 returns c =
