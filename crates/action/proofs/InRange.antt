@@ -1,7 +1,7 @@
 -- What operands in range give.
 use mathlib.Core.Path.{◌≡◌}
 use mathlib.Core.Logic.{◌≢◌}
-use mathlib.Core.Bool.{Bool, true, not, ◌&&◌, ◌||◌}
+use mathlib.Core.Bool.{Bool, true, ◌&&◌}
 use Prim.Native.Nat.{ℕ, ◌<◌}
 use native.Mathlib.Omega.{arith}
 use lib.Dec.{eqb, ltb}

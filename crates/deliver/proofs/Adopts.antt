@@ -1,5 +1,5 @@
 -- A case is compared with the one in which a reply is taken.
-use Rattle.std.proofs.Common.{◌≡◌, refl, sym, ◌∙◌, Bool, ap, ℕ}
+use Rattle.std.proofs.Common.{◌≡◌, refl, ◌∙◌, Bool, ap, ℕ}
 use denote.Enum.Bare.{sameb}
 use Rattle.protocol.specs.declared.Case.{Case}
 use Rattle.protocol.specs.declared.Case.TheVariants.{Adopted, NotTentative, Unconnected, NotGreater}

@@ -2,7 +2,7 @@
 use Rattle.std.proofs.Common.{◌≡◌, refl, ℕ, ◌<◌, ◌-◌, List, [], ◌∷◌, get_or, arith}
 use Rattle.protocol.specs.declared.Refusal.{Refusal}
 use Rattle.protocol.specs.declared.Refusal.TheVariants.{NotANet, NotAnAction, BadOperand, NotEnabled, LastClock, FullChannel, NoSuchName, NotOnTree, NotAPlan, WrongSize, CutScript, LongScript}
-use Rattle.protocol.specs.Refusals.{number, outcome_of}
+use Rattle.protocol.specs.Refusals.{number}
 
 abbrev refusals : List Refusal
 refusals = NotANet ∷ NotAnAction ∷ BadOperand ∷ NotEnabled ∷ LastClock ∷ FullChannel ∷ NoSuchName ∷ NotOnTree ∷ NotAPlan ∷ WrongSize

@@ -85,8 +85,8 @@ fn step_in(net: &mut Whole, m: Mark, action: u8, a: u8, b: u8, c: u8) -> Answer
     }
 }
 
-// Every step of the script: the shape is tested by the caller, once.
-pub fn run_in(net: &mut Whole, m: Mark, script: &[u8]) -> Tally
+// Every step of the script.
+fn run_whole(net: &mut Whole, m: Mark, script: &[u8]) -> Tally
     requires net { IsNet net.old }
     requires m_value { m ≡ mark_of net.old }
     requires script_len_bound { length script.now ≤ longest_script }
@@ -99,4 +99,15 @@ pub fn run_in(net: &mut Whole, m: Mark, script: &[u8]) -> Tally
         tally = counted(tally, d);
     }
     tally
+}
+
+// Every step of the script: the shape is tested by the caller, once.
+pub fn run_in(net: &mut [u8], m: Mark, script: &[u8]) -> Tally
+    requires net { IsNet net.old }
+    requires m_value { m ≡ mark_of net.old }
+    requires script_len_bound { length script.now ≤ longest_script }
+    ensures { (result ≡ (after (view net.old) script.now (length script.now / 4)).tally)
+        × (net.new ≡ bytes_like net.old (after (view net.old) script.now (length script.now / 4)).net) }
+{
+    run_whole(net.as_mut_array().unwrap(), m, script)
 }

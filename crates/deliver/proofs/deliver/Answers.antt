@@ -2,7 +2,7 @@ use Rattle.std.proofs.Common.{◌≡◌, ◌<◌, ℕ, refl, sym, ap, subst, ◌
 use borrow.Author.Tests.{lt-ltb}
 use Rattle.bits.proofs.Cases.{and_l}
 use Rattle.protocol.specs.declared.Message.{Message}
-use Rattle.protocol.specs.Net.{take_at, near?}
+use Rattle.protocol.specs.Net.{take_at}
 use Rattle.protocol.specs.Rules.{oldest, room?, answered, heard, case_at}
 use Rattle.protocol.specs.Rules as rule
 use Rattle.net.specs.View.{view}

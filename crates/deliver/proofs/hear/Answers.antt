@@ -1,4 +1,4 @@
-use Rattle.std.proofs.Common.{◌≡◌, ◌<◌, ℕ, sym, subst, ◌∙◌, length}
+use Rattle.std.proofs.Common.{◌<◌, sym, subst, ◌∙◌, length}
 use Rattle.protocol.specs.Net.{Net, set_entry, set_channel, take_at}
 use Rattle.protocol.specs.Rules.{heard}
 use Rattle.net.specs.View.{view}

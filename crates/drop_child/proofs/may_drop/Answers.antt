@@ -1,4 +1,4 @@
-use Rattle.std.proofs.Common.{◌≡◌, refl, sym, ◌∙◌, eqb, not, ◌&&◌, true, false}
+use Rattle.std.proofs.Common.{◌≡◌, eqb, not, ◌&&◌, true, false}
 use Rattle.bits.specs.Masks.{has}
 use Rattle.protocol.specs.Rules as rule
 use Rattle.access.specs.Seen.{net_of}

@@ -1,4 +1,4 @@
-use Rattle.std.proofs.Common.{◌≡◌, refl, sym, ◌∙◌, true, false}
+use Rattle.std.proofs.Common.{◌≡◌, sym, ◌∙◌, true, false}
 use Rattle.bits.specs.Masks.{has}
 use Rattle.protocol.specs.Rules as rule
 use Rattle.access.specs.Seen.{net_of}

@@ -1,4 +1,4 @@
-use Rattle.std.proofs.Common.{◌≡◌, ◌<◌, ℕ, refl, sym, ap, ◌∙◌, ltb}
+use Rattle.std.proofs.Common.{refl, sym, ap, ◌∙◌, ltb}
 use borrow.Author.Tests.{lt-ltb, le-ltb}
 use Rattle.protocol.specs.Rules as rule
 use Rattle.net.specs.View.{view}

@@ -1,4 +1,4 @@
-use Rattle.std.proofs.Common.{◌≡◌, Bool, ap, ◌∙◌, rules}
+use Rattle.std.proofs.Common.{ap, ◌∙◌, rules}
 use borrow.Author.Tests.{ne_eqb}
 use Rattle.shape.specs.Shape.{laid_out, shaped_as}
 use Rattle.shape.proofs.Nets.{net-is}

@@ -1,4 +1,4 @@
-use Rattle.std.proofs.Common.{◌≡◌, ◌<◌, ℕ, sym, ap, ◌∙◌, arith, refl, false}
+use Rattle.std.proofs.Common.{◌≡◌, ℕ, sym, ap, ◌∙◌, arith, refl, false}
 use borrow.Author.Tests.{lt-ltb, ltb-true}
 use Rattle.bits.specs.Masks.{has}
 use Rattle.bits.proofs.Cases.{same_test, and_r, and_both}

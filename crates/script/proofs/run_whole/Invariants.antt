@@ -2,7 +2,7 @@ use Rattle.std.proofs.Common.{◌≡◌, ◌*◌, ◌≤◌, length, drop}
 use Rattle.protocol.specs.Runs.{after}
 use Rattle.net.specs.View.{view}
 use Rattle.net.specs.Encode.{bytes_like}
-use Rattle.script.proofs.run_in.Given as goal
+use Rattle.script.proofs.run_whole.Given as goal
 
 -- as many steps are done as were yielded, and the others are left
 abbrev pub invariant-loop-step : goal.invariant-loop-step

@@ -6,7 +6,7 @@ use Rattle.net.proofs.Forms.{seen, view-bytes}
 use Rattle.script.specs.Inner.Counts.{CountsUpTo}
 use Rattle.script.proofs.CountsUpTo.{few}
 use Rattle.script.proofs.Turns.{after-is-net, turn-net, turn-tally, steps-left, step-within, step-ends, all-done}
-use Rattle.script.proofs.run_in.Goals as goal
+use Rattle.script.proofs.run_whole.Goals as goal
 
 pub loop-step-init : goal.loop-step-init
 unfolding after
