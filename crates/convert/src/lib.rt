@@ -28,7 +28,7 @@ impl Cell for Entries<'_> {
 
     ghost made = { λ e out g p. entry_carried e.net.now e.from e.to out g p };
 
-    fn make(&self, out: &mut [u8], g: usize, p: usize) {
+    fn make(&self, out: &mut [u8; NET_LENGTH], g: usize, p: usize) {
         let a = entry_at(self.from, g, p);
         let b = entry_at(self.to, g, p);
         out[b..b + ENTRY_SIZE].copy_from_slice(&self.net[a..a + ENTRY_SIZE]);
@@ -36,8 +36,8 @@ impl Cell for Entries<'_> {
 }
 
 // The whole net: its bytes as they are, the other mark, and each entry where it stands now.
-fn carry(net: &[u8], m: Mark, out: &mut [u8], n: Mark)
-    requires { (length net.now ≡ net_length) × (length out.old ≡ net_length) }
+fn carry(net: &[u8], m: Mark, out: &mut [u8; NET_LENGTH], n: Mark)
+    requires { length net.now ≡ net_length }
     ensures { out.new ≡ carried net.now m n }
 {
     out.copy_from_slice(net);
@@ -58,9 +58,9 @@ pub fn convert(net: &[u8], m: Mark, out: &mut [u8], n: Mark) -> Result<(), Refus
     if !shape::whole::shaped_as(net, m) {
         return Err(Refusal::NotANet);
     }
-    if out.len() != NET_LENGTH {
+    let Some(out) = out.as_mut_array() else {
         return Err(Refusal::WrongSize);
-    }
+    };
     carry(net, m, out, n);
     Ok(())
 }

@@ -13,6 +13,7 @@ use bits::number::put;
 use forms::{Cell, make_rows};
 use layout::form::Mark;
 use layout::front::Front;
+use layout::offset::NET_LENGTH;
 use layout::{form, offset};
 use protocol::{Entry, NIL, Refusal};
 
@@ -25,7 +26,7 @@ impl Cell for NoRoute {
 
     ghost made = { λ _ net p d. route_nil net p d };
 
-    fn make(&self, net: &mut [u8], p: usize, d: usize) {
+    fn make(&self, net: &mut [u8; NET_LENGTH], p: usize, d: usize) {
         net[offset::route_at(p, d)] = NIL;
     }
 }
@@ -52,7 +53,7 @@ impl Cell for BlankEntry {
 
     ghost made = { λ _ net g p. entry_blank net g p };
 
-    fn make(&self, net: &mut [u8], g: usize, p: usize) {
+    fn make(&self, net: &mut [u8; NET_LENGTH], g: usize, p: usize) {
         let a = form::stretch_at(Mark::Saved, g);
         let n = form::stretch_size(Mark::Saved);
         access::change::write_entry(
@@ -64,15 +65,15 @@ impl Cell for BlankEntry {
 }
 
 // The whole net: all zero, but for the plan, the routes and the parents.
-fn lay(plan: &[u8], net: &mut [u8])
-    requires { (length plan.now ≡ plan_length) × (stations plan.now ≤ most_stations) × (groups plan.now ≤ most_groups) × (length net.old ≡ net_length) }
+fn lay(plan: &[u8], net: &mut [u8; NET_LENGTH])
+    requires { (length plan.now ≡ plan_length) × (stations plan.now ≤ most_stations) × (groups plan.now ≤ most_groups) }
     ensures { net.new ≡ laid plan.now }
 {
     let front = Front { bytes: plan };
     let n = usize::from(front.stations());
     net.fill(0);
     net[..plan.len()].copy_from_slice(plan);
-    put(net, 0, offset::NET_LENGTH as u32);
+    put(net, 0, NET_LENGTH as u32);
     make_rows(&NoRoute, net, n, n);
     make_rows(&BlankEntry, net, usize::from(front.groups()), n);
 }
@@ -81,9 +82,9 @@ fn lay(plan: &[u8], net: &mut [u8])
 pub fn fresh(plan: &[u8], net: &mut [u8]) -> Result<(), Refusal>
     ensures { (outcome_of result ≡ fresh_outcome plan.now net.old) × (net.new ≡ net_after_fresh plan.now net.old) }
 {
-    if net.len() != offset::NET_LENGTH {
+    let Some(net) = net.as_mut_array() else {
         return Err(Refusal::WrongSize);
-    }
+    };
     if !plan::whole::plan_shaped(plan) {
         return Err(Refusal::NotAPlan);
     }

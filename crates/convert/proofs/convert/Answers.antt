@@ -9,14 +9,15 @@ pub returns-then-not-shaped_as : goal.returns-then-not-shaped_as
 unfolding convert_outcome after_convert
 returns-then-not-shaped_as c = rw (sym c.shaped_as.ensures ∙ c.if-not-shaped_as.true) (refl, refl)
 
-pub returns-then-out-ne-NET_LENGTH : goal.returns-then-out-ne-NET_LENGTH
+pub returns-in_default : goal.returns-in_default
 unfolding convert_outcome after_convert
-returns-then-out-ne-NET_LENGTH c = rw (sym c.shaped_as.ensures ∙ c.if-not-shaped_as.false, ne_eqb _ _ c.if-out-ne-NET_LENGTH.true) (refl, refl)
+returns-in_default c = rw (sym c.shaped_as.ensures ∙ c.if-not-shaped_as.false, ne_eqb _ _ c.in_default.ensures.cases) (refl, refl)
 
 pub carry-requires : goal.carry-requires
-carry-requires c = (long _ _ (sym c.shaped_as.ensures ∙ c.if-not-shaped_as.false), c.if-out-ne-NET_LENGTH.false)
+carry-requires c = long _ _ (sym c.shaped_as.ensures ∙ c.if-not-shaped_as.false)
 
 pub returns : goal.returns
 unfolding convert_outcome after_convert
-returns c = let s = sym c.shaped_as.ensures ∙ c.if-not-shaped_as.false in
-    rw (s, eq-eqb _ _ c.if-out-ne-NET_LENGTH.false) (refl, c.carry.ensures ∙ carried-is _ _ _ s)
+returns c =
+    let s = sym c.shaped_as.ensures ∙ c.if-not-shaped_as.false in
+    rw (s, eq-eqb _ _ c.in-Some.ensures.cases.long) (refl, c.carry.ensures ∙ carried-is _ _ _ s)

@@ -12,10 +12,11 @@ pub returns : goal.returns
 unfolding laid plan_laid
 returns c =
     let plan = c.args.plan.now in
-    let zeros : c.fill.new.self ≡ replicate net_length 0 = c.fill.ensures.after (λ y e. e) ∙ ap (λ (k : ℕ). replicate k 0) c.requires.3 in
+    let n : length c.args.net.now ≡ net_length = omega arith in
+    let zeros : c.fill.new.self ≡ replicate net_length 0 = c.fill.ensures.after (λ y e. e) ∙ ap (λ (k : ℕ). replicate k 0) n in
     let put : c.copy_from_slice.new.self ++ drop (length plan) c.fill.new.self ≡ splice c.fill.new.self 0 plan =
     ap (λ (ys : List ℕ). ys ++ drop (length plan) c.fill.new.self) c.copy_from_slice.ensures.after
-    ∙ put_whole 0 (length plan) c.fill.new.self plan refl (omega (arith, c.requires.0, c.requires.3, c.fill.ensures.len)) in
+    ∙ put_whole 0 (length plan) c.fill.new.self plan refl (omega (arith, c.requires.0, n, c.fill.ensures.len)) in
     let front = c.put.ensures ∙ (λ i. splice ((put ∙ ap (λ (l : List ℕ). splice l 0 plan) zeros) i) 0 (bytes 4 net_length)) in
     let stations = c.from-n.ensures ∙ c.stations.ensures in
     let routed = c.make_rows.ensures ∙ (λ i. in_rows route_nil (front i) (stations i) (stations i)) in
