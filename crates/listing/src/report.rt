@@ -22,8 +22,8 @@ pub const STORED_LENGTH: usize = 16496;
 pub const TEXT_ROOM: usize = 16640;
 
 // What the input is refused with; if it is not, the net is fresh from its plan.
-fn stored_outcome(stored: &[u8], beyond: usize, net: &mut [u8]) -> Result<(), Refusal>
-    requires { (beyond < 9223372036854775808) × (length net.old ≡ net_length) }
+fn stored_outcome(stored: &[u8], beyond: usize, net: &mut [u8; NET_LENGTH]) -> Result<(), Refusal>
+    requires { beyond < 9223372036854775808 }
     ensures outcome { outcome_of result ≡ stored_outcome stored.now beyond }
     ensures fresh { outcome_of result ≡ 0 → net.new ≡ bytes_of (fresh (plan_in (plan_part stored.now))) }
 {
