@@ -35,7 +35,8 @@ impl Cell for Entries<'_> {
     }
 }
 
-// The whole net: its bytes as they are, the other mark, and each entry where it stands now.
+// The whole net: its bytes as they are, the other mark, and each entry where it stands now. What is read is the slice that was tested, and no
+// array of it is made: its length is asked once.
 fn carry(net: &[u8], m: Mark, out: &mut [u8; NET_LENGTH], n: Mark)
     requires { length net.now ≡ net_length }
     ensures { out.new ≡ carried net.now m n }

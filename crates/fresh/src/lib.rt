@@ -64,7 +64,8 @@ impl Cell for BlankEntry {
     }
 }
 
-// The whole net: all zero, but for the plan, the routes and the parents.
+// The whole net: all zero, but for the plan, the routes and the parents. The plan is the slice that was tested, and no array of it is made: its
+// length is asked once.
 fn lay(plan: &[u8], net: &mut [u8; NET_LENGTH])
     requires { (length plan.now ≡ plan_length) × (stations plan.now ≤ most_stations) × (groups plan.now ≤ most_groups) }
     ensures { net.new ≡ laid plan.now }
