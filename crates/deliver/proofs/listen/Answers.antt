@@ -29,8 +29,10 @@ entry-e-requires c =
 pub without-requires : goal.without-requires
 without-requires c =
     let a = c.args in
+    let N = view a.net.now in
     let H = seen _ _ c.requires.net.shape in
-    omega (arith, sender (view a.net.now) H a.s a.d c.requires.may_deliver, c.requires.net.stations_most)
+    let O = c.requires.may_deliver in
+    omega (arith, sender N H a.s a.d O, receiver N H a.s a.d O, c.requires.net.stations_most)
 
 pub set_waiting-requires : goal.set_waiting-requires
 set_waiting-requires c =
