@@ -31,7 +31,8 @@ fn case_counted(r: Replies) -> Option<Case>
     None
 }
 
-// A step of any bytes, which are to be a net in the form of this mark: the case of the reply that it heard, if it heard one.
+// A step of any bytes, which are to be a net in the form of this mark: the case of the reply that it heard, if it heard one. An action and
+// its operands are four numbers, as C has them and as the rules take them (`rule`, `outcome`).
 pub fn step_as(
     net: &mut [u8],
     m: Mark,
