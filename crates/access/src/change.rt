@@ -1,5 +1,5 @@
-// One thing of a net changed in its bytes. They are lent as bytes, with their mark beside them, and in no struct as `read::NetBytes` is: that
-// was tried, and the proof of a caller did not close, who does not know what a struct with a lent part has left in the part.
+// One thing of a net changed in its bytes. They are lent as an array, with their mark beside them, and in no struct as `read::NetBytes` is:
+// that was tried, and the proof of a caller did not close, who does not know what a struct with a lent part has left in the part.
 ghost use Rattle.std.specs.Prelude.{◌≡◌, [], ◌∷◌, ◌+◌, ◌≤◌, ◌<◌, length};
 ghost use Rattle.bits.specs.Numbers.{bytes};
 ghost use Rattle.bits.specs.Parts.{splice};

@@ -66,7 +66,7 @@ impl<'a> NetBytes<'a> {
 
     // Any bytes, if they are a net in the form of this mark.
     pub fn shaped(bytes: &'a [u8], mark: Mark) -> Result<Self, Refusal>
-        ensures ok { IfOk result (λ net. (net.bytes.now ≡ bytes.now) × (shaped_as mark bytes.now ≡ true)) }
+        ensures ok { IfOk result (λ net. (net.bytes.now ≡ bytes.now) × (net.mark ≡ mark) × (shaped_as mark bytes.now ≡ true)) }
         ensures err { IfErr result (λ k. (k ≡ NotANet) × (shaped_as mark bytes.now ≡ false)) }
     {
         if !shape::whole::shaped_as(bytes, mark) {

@@ -1,4 +1,4 @@
-// 2. Ask: a request goes to the route's neighbour, the tentative parent from now on. Why the net is lent as bytes: access/src/change.rt.
+// 2. Ask: a request goes to the route's neighbour, the tentative parent from now on. Why the net is lent in no struct: access/src/change.rt.
 #![tactic(auto)]
 
 ghost use Rattle.std.specs.Prelude.{◌≡◌};

@@ -3,7 +3,7 @@ ghost use Rattle.std.specs.Prelude.{◌≡◌, ℕ, ◌+◌, ◌*◌, ◌≤◌,
 ghost use Rattle.bits.specs.Numbers.{bytes};
 ghost use Rattle.bits.specs.Parts.{number_at, splice};
 
-// Two bytes as one number.
+// Two bytes as one number: a channel is searched for both in one test (docs/DECISIONS.md, 39).
 pub fn join8(a: u8, b: u8) -> u16
     ensures { result ≡ a * 256 + b }
 {

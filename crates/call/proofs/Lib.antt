@@ -1,3 +1,2 @@
 pub mod Lists
 pub mod Ends
-pub mod Answers

@@ -74,7 +74,7 @@ pub fn to_working(net: &[u8], work: &mut [u8]) -> Result<(), Refusal>
     convert(net, Mark::Saved, work, Mark::Working)
 }
 
-// And back.
+// And back: what C calls.
 pub fn to_saved(work: &[u8], net: &mut [u8]) -> Result<(), Refusal>
     ensures { (outcome_of result ≡ convert_outcome Working work.now net.old)
         × (net.new ≡ after_convert Working Saved work.now net.old) }

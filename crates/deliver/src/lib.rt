@@ -1,4 +1,4 @@
-// 4. Deliver: the oldest message from s to d. Why the net is lent as bytes: access/src/change.rt.
+// 4. Deliver: the oldest message from s to d. Why the net is lent in no struct: access/src/change.rt.
 #![tactic(auto)]
 
 ghost use Rattle.std.specs.Prelude.{◌≡◌, true, ◌<◌};

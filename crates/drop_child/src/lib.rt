@@ -1,4 +1,4 @@
-// 7. Drop child: it is removed, and the station leaves if it no longer joins. Why the net is lent as bytes: access/src/change.rt.
+// 7. Drop child: it is removed, and the station leaves if it no longer joins. Why the net is lent in no struct: access/src/change.rt.
 #![tactic(auto)]
 
 ghost use Rattle.std.specs.Prelude.{◌≡◌, ◌<◌};

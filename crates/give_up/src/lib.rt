@@ -1,4 +1,4 @@
-// 6. Give up: the station stops waiting on the neighbour. Why the net is lent as bytes: access/src/change.rt.
+// 6. Give up: the station stops waiting on the neighbour. Why the net is lent in no struct: access/src/change.rt.
 #![tactic(auto)]
 
 ghost use Rattle.std.specs.Prelude.{◌≡◌, ◌<◌};

@@ -15,7 +15,7 @@ pub enum Mark {
     Working = 1,
 }
 
-// Byte 7 of a net in this form.
+// Byte 7 of a net in this form: the number of the discriminant, tied to the definition `mark_byte` here and nowhere else.
 pub fn mark_byte(m: Mark) -> u8
     ensures { result ≡ mark_byte m }
 {

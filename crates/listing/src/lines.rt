@@ -6,14 +6,13 @@ ghost use Rattle.access.specs.Seen.{net_of};
 ghost use Rattle.text.specs.Inner.Added.{Added};
 ghost use Rattle.listing.specs.Lines.{run_line, replies_line, station_line, station_lines, group_line, group_texts, listing, refused_text};
 
-use crate::report::TEXT_ROOM;
 use access::read::NetBytes;
 use protocol::{Refusal, Replies, Tally};
 use text::Text;
 
 // The tally, and how many messages are left in channels.
-fn run_line(text: &mut Text<TEXT_ROOM>, t: Tally, left: u32)
-    requires { length text.old + 115 ≤ TEXT_ROOM }
+fn run_line<const ROOM: usize>(text: &mut Text<ROOM>, t: Tally, left: u32)
+    requires { length text.old + 115 ≤ ROOM }
     ensures { Added 115 text.old text.new (run_line t left) }
 {
     text.put_filled(
@@ -23,8 +22,8 @@ fn run_line(text: &mut Text<TEXT_ROOM>, t: Tally, left: u32)
 }
 
 // The counts of the replies, by case.
-fn replies_line(text: &mut Text<TEXT_ROOM>, r: Replies)
-    requires { length text.old + 98 ≤ TEXT_ROOM }
+fn replies_line<const ROOM: usize>(text: &mut Text<ROOM>, r: Replies)
+    requires { length text.old + 98 ≤ ROOM }
     ensures { Added 98 text.old text.new (replies_line r) }
 {
     text.put_filled(
@@ -34,8 +33,8 @@ fn replies_line(text: &mut Text<TEXT_ROOM>, r: Replies)
 }
 
 // The line of station p in group g.
-fn station_line(net: &NetBytes, g: u8, p: u8, text: &mut Text<TEXT_ROOM>)
-    requires { (g < (net_of net.now).groups) × (p < (net_of net.now).stations) × (length text.old + 251 ≤ TEXT_ROOM) }
+fn station_line<const ROOM: usize>(net: &NetBytes, g: u8, p: u8, text: &mut Text<ROOM>)
+    requires { (g < (net_of net.now).groups) × (p < (net_of net.now).stations) × (length text.old + 251 ≤ ROOM) }
     ensures { Added 251 text.old text.new (station_line (net_of net.now) g p) }
 {
     let e = net.entry(g, p);
@@ -53,8 +52,8 @@ fn station_line(net: &NetBytes, g: u8, p: u8, text: &mut Text<TEXT_ROOM>)
 }
 
 // The lines of the stations in group g.
-fn station_lines(net: &NetBytes, g: u8, text: &mut Text<TEXT_ROOM>)
-    requires { (g < (net_of net.now).groups) × (length text.old + 4016 ≤ TEXT_ROOM) }
+fn station_lines<const ROOM: usize>(net: &NetBytes, g: u8, text: &mut Text<ROOM>)
+    requires { (g < (net_of net.now).groups) × (length text.old + 4016 ≤ ROOM) }
     ensures { Added 4016 text.old text.new (station_lines (net_of net.now) g) }
 {
     for p in 0..net.stations() {
@@ -63,8 +62,8 @@ fn station_lines(net: &NetBytes, g: u8, text: &mut Text<TEXT_ROOM>)
 }
 
 // The line of group g.
-fn group_line(net: &NetBytes, g: u8, text: &mut Text<TEXT_ROOM>)
-    requires { (g < (net_of net.now).groups) × (length text.old + 71 ≤ TEXT_ROOM) }
+fn group_line<const ROOM: usize>(net: &NetBytes, g: u8, text: &mut Text<ROOM>)
+    requires { (g < (net_of net.now).groups) × (length text.old + 71 ≤ ROOM) }
     ensures { Added 71 text.old text.new (group_line (net_of net.now) g) }
 {
     text.put_filled_one(b"group # name ", u32::from(g));
@@ -74,8 +73,8 @@ fn group_line(net: &NetBytes, g: u8, text: &mut Text<TEXT_ROOM>)
 }
 
 // The line of each group, and those of its stations.
-fn group_texts(net: &NetBytes, text: &mut Text<TEXT_ROOM>)
-    requires { length text.old + 16348 ≤ TEXT_ROOM }
+fn group_texts<const ROOM: usize>(net: &NetBytes, text: &mut Text<ROOM>)
+    requires { length text.old + 16348 ≤ ROOM }
     ensures { Added 16348 text.old text.new (group_texts (net_of net.now)) }
 {
     for g in 0..net.groups() {
@@ -85,8 +84,8 @@ fn group_texts(net: &NetBytes, text: &mut Text<TEXT_ROOM>)
 }
 
 // The listing of a net after a run that began with no message: those sent, and not delivered or lost, are left in channels.
-pub fn listing(net: &NetBytes, t: Tally, text: &mut Text<TEXT_ROOM>)
-    requires { (t.sent ≡ t.delivered + t.lost + in_channels (net_of net.now)) × (length text.old + 16561 ≤ TEXT_ROOM) }
+pub fn listing<const ROOM: usize>(net: &NetBytes, t: Tally, text: &mut Text<ROOM>)
+    requires { (t.sent ≡ t.delivered + t.lost + in_channels (net_of net.now)) × (length text.old + 16561 ≤ ROOM) }
     ensures { Added 16561 text.old text.new (listing (net_of net.now) t) }
 {
     run_line(text, t, t.sent - t.delivered - t.lost);
@@ -95,8 +94,8 @@ pub fn listing(net: &NetBytes, t: Tally, text: &mut Text<TEXT_ROOM>)
 }
 
 // The refusal, with its number.
-pub fn refused_text(text: &mut Text<TEXT_ROOM>, k: Refusal)
-    requires { length text.old + 19 ≤ TEXT_ROOM }
+pub fn refused_text<const ROOM: usize>(text: &mut Text<ROOM>, k: Refusal)
+    requires { length text.old + 19 ≤ ROOM }
     ensures { Added 19 text.old text.new (refused_text (number k)) }
 {
     text.put_filled_one(b"refused #\n", k as u32);

@@ -1,4 +1,4 @@
-// 5. Lose: the message at a position is removed. Why the net is lent as bytes: access/src/change.rt.
+// 5. Lose: the message at a position is removed. Why the net is lent in no struct: access/src/change.rt.
 #![tactic(auto)]
 
 ghost use Rattle.protocol.specs.Rules as rule;

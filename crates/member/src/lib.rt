@@ -1,4 +1,4 @@
-// 8. Member: the flag is set, and the station leaves if it no longer joins. Why the net is lent as bytes: access/src/change.rt.
+// 8. Member: the flag is set, and the station leaves if it no longer joins. Why the net is lent in no struct: access/src/change.rt.
 #![tactic(auto)]
 
 ghost use Rattle.std.specs.Prelude.{◌≡◌};

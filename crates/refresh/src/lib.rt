@@ -1,4 +1,4 @@
-// 3. Refresh: a request goes to the parent. Why the net is lent as bytes: access/src/change.rt.
+// 3. Refresh: a request goes to the parent. Why the net is lent in no struct: access/src/change.rt.
 #![tactic(auto)]
 
 ghost use Rattle.std.specs.Prelude.{◌≡◌};

@@ -43,7 +43,7 @@ fn step_word(answer: Result<Option<Case>, Refusal>) -> u32
     match answer {
         Ok(None) => 0,
         Ok(Some(case)) => 256 * (case as u32),
-        Err(k) => k as u32,
+        Err(refusal) => refusal as u32,
     }
 }
 

@@ -1,4 +1,4 @@
-// 9. Route: the next station from p towards d is q. Why the net is lent as bytes: access/src/change.rt.
+// 9. Route: the next station from p towards d is q. Why the net is lent in no struct: access/src/change.rt.
 #![tactic(auto)]
 
 ghost use Rattle.protocol.specs.Rules as rule;

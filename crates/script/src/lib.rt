@@ -1,5 +1,5 @@
 // The steps of a script in turn, on bytes that are a net's, and their tally. A single step is a script of one: so that there is one place
-// that steps are taken from, and the compiler puts the actions there whole. Why the net is lent as bytes: access/src/change.rt.
+// that steps are taken from, and the compiler puts the actions there whole. Why the net is lent in no struct: access/src/change.rt.
 #![tactic(auto)]
 
 ghost use Rattle.std.specs.Prelude.{◌≡◌, ◌/◌, ◌≤◌, length};

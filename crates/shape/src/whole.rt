@@ -32,7 +32,7 @@ pub fn shaped_as(s: &[u8], m: Mark) -> bool
     }
 }
 
-// In the saved form.
+// In the saved form. `shaped-determined` speaks of it by this name.
 pub fn shaped(s: &[u8]) -> bool
     ensures { result ≡ shaped s.now }
 {

@@ -65,8 +65,8 @@ fn of_deliver(net: &NetBytes, s: u8, d: u8, c: u8) -> Refusal
     Refusal::FullChannel
 }
 
-// Any step. Of a tick only the clock is left, and of the actions that send nothing, only that they are not enabled. The numbers are matched
-// as they are, as in script::step_in.
+// Any step. Of a tick only the clock is left, and of the actions that send nothing, only that they are not enabled. It matches
+// the numbers a second time, for speed: see the head.
 pub fn refusal(net: &NetBytes, action: u8, a: u8, b: u8, c: u8) -> Refusal
     requires { outcome (net_of net.now) action a b c ≢ 0 }
     ensures { number result ≡ outcome (net_of net.now) action a b c }

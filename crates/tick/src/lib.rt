@@ -1,4 +1,4 @@
-// 1. Tick: the root's clock grows by one. Why the net is lent as bytes: access/src/change.rt.
+// 1. Tick: the root's clock grows by one. Why the net is lent in no struct: access/src/change.rt.
 #![tactic(auto)]
 
 ghost use Rattle.std.specs.Prelude.{◌≡◌};

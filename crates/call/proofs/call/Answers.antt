@@ -18,7 +18,7 @@ returns-then-not-is_group-is_station c =
     let a = c.args in
     let l = c.in_ok-net.net.bytes.now in
     let e = c.in_ok-net.ensures.ok.0 in
-    let s : shaped l ≡ true = rw e c.in_ok-net.ensures.ok.1 in
+    let s : shaped l ≡ true = rw e c.in_ok-net.ensures.ok.2 in
     rw (← e) (ends-3 l a.g a.c a.out.now s (cc))
 
 pub returns-then-out-ne-LIST_LENGTH : goal.returns-then-out-ne-LIST_LENGTH
@@ -26,7 +26,7 @@ returns-then-out-ne-LIST_LENGTH c =
     let a = c.args in
     let l = c.in_ok-net.net.bytes.now in
     let e = c.in_ok-net.ensures.ok.0 in
-    let s : shaped l ≡ true = rw e c.in_ok-net.ensures.ok.1 in
+    let s : shaped l ≡ true = rw e c.in_ok-net.ensures.ok.2 in
     rw (← e) (ends-10 l a.g a.c a.out.now s (cc) c.if-out-ne-LIST_LENGTH.true)
 
 pub on_tree-requires : goal.on_tree-requires
@@ -37,7 +37,7 @@ returns-then-not-on_tree c =
     let a = c.args in
     let l = c.in_ok-net.net.bytes.now in
     let e = c.in_ok-net.ensures.ok.0 in
-    let s : shaped l ≡ true = rw e c.in_ok-net.ensures.ok.1 in
+    let s : shaped l ≡ true = rw e c.in_ok-net.ensures.ok.2 in
     rw (← e) (ends-8 l a.g a.c a.out.now s (cc) c.if-out-ne-LIST_LENGTH.false (cc))
 
 pub list_reached-reached-requires-clause-g_bound : goal.list_reached-reached-requires-clause-g_bound
@@ -55,7 +55,7 @@ returns c =
     let a = c.args in
     let l = c.in_ok-net.net.bytes.now in
     let e = c.in_ok-net.ensures.ok.0 in
-    let s : shaped l ≡ true = rw e c.in_ok-net.ensures.ok.1 in
+    let s : shaped l ≡ true = rw e c.in_ok-net.ensures.ok.2 in
     let r = c.list_reached-reached in
     rw (← e)
     (ends-0 l a.g a.c a.out.now s (cc) c.if-out-ne-LIST_LENGTH.false c.in_ok-net.net.is_net (cc) _ _ r.ensures.count r.ensures.list)

@@ -16,4 +16,4 @@ pub returns : goal.returns
 unfolding found_in
 returns c =
     let n = c.in_ok-net.ensures.ok in
-    rw (n.1) (c.find_in.ensures ∙ ap (λ (l : List ℕ). find (view l) c.args.name.now) n.0)
+    rw (n.2) (c.find_in.ensures ∙ ap (λ (l : List ℕ). find (view l) c.args.name.now) n.0)

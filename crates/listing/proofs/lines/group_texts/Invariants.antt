@@ -6,4 +6,4 @@ use Rattle.listing.specs.Lines.{group_text}
 use Rattle.listing.proofs.lines.group_texts.Given as goal
 
 abbrev pub invariant-loop-g : goal.invariant-loop-g
-invariant-loop-g l = Added (4087 * l.g) l.initial.text l.text (each l.g (group_text (net_of l.net)))
+invariant-loop-g g l = Added (4087 * l.g) l.initial.text l.text (each l.g (group_text (net_of l.net)))

@@ -7,7 +7,7 @@ use Rattle.listing.proofs.lines.listing.Goals as goal
 
 pub returns : goal.returns
 unfolding listing
-returns c =
+returns g c =
     let t = c.args.t in
     let left : t.sent - t.delivered - t.lost ≡ in_channels (net_of c.args.net.now) = omega (arith, c.requires) in
     rw (← left) (c.run_line.ensures then c.replies_line.ensures then c.group_texts.ensures)

@@ -6,4 +6,4 @@ use Rattle.listing.proofs.lines.refused_text.Goals as goal
 
 pub returns : goal.returns
 unfolding refused_text text
-returns c = subst (λ (n : ℕ). Added 19 c.args.text.now c.put_filled_one.new.self (refused_text n)) (search rules) c.put_filled_one.ensures
+returns g c = subst (λ (n : ℕ). Added 19 c.args.text.now c.put_filled_one.new.self (refused_text n)) (search rules) c.put_filled_one.ensures

@@ -5,4 +5,4 @@ use Rattle.listing.proofs.lines.replies_line.Goals as goal
 
 pub returns : goal.returns
 unfolding replies_line case_count text
-returns c = c.put_filled.ensures
+returns g c = c.put_filled.ensures

@@ -4,4 +4,4 @@ use Rattle.listing.proofs.lines.run_line.Goals as goal
 
 pub returns : goal.returns
 unfolding run_line text
-returns c = c.put_filled.ensures
+returns g c = c.put_filled.ensures

@@ -5,10 +5,10 @@ use Rattle.listing.proofs.lines.station_lines.Goals as goal
 
 pub loop-p-init : goal.loop-p-init
 unfolding row
-loop-p-init c = added_none _ _
+loop-p-init g c = added_none _ _
 
 pub loop-p-preserved : goal.loop-p-preserved
-loop-p-preserved c = row_more _ _ _ refl c.loop-p.invariant c.station_line.ensures
+loop-p-preserved g c = row_more _ _ _ refl c.loop-p.invariant c.station_line.ensures
 
 pub returns : goal.returns
-returns c = row-all _ _ _ (omega arith) (omega (arith, c.args.net.now.is_net)) c.loop-p.invariant
+returns g c = row-all _ _ _ (omega arith) (omega (arith, c.args.net.now.is_net)) c.loop-p.invariant

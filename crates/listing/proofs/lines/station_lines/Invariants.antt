@@ -6,4 +6,4 @@ use Rattle.listing.specs.Lines.{station_line}
 use Rattle.listing.proofs.lines.station_lines.Given as goal
 
 abbrev pub invariant-loop-p : goal.invariant-loop-p
-invariant-loop-p l = Added (251 * l.p) l.initial.text l.text (each l.p (station_line (net_of l.net) l.g))
+invariant-loop-p g l = Added (251 * l.p) l.initial.text l.text (each l.p (station_line (net_of l.net) l.g))

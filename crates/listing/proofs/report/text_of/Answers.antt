@@ -34,4 +34,4 @@ pub of-requires : goal.of-requires
 of-requires c = (ran (goal.at.of-requires c).After-counts_of-tally).net
 
 pub listing-requires : goal.listing-requires
-listing-requires c = (rw c.of.ensures (ran (goal.at.listing-requires c).After-counts_of-tally).left, omega arith)
+listing-requires c = (omega arith, (rw c.of.ensures (ran (goal.at.listing-requires c).After-counts_of-tally).left, omega arith))
