@@ -1,12 +1,12 @@
 -- The oldest message from s to d, and the net once it is taken out.
-use mathlib.Core.Path.{◌≡◌}
+use mathlib.Core.Path.{◌≡◌, sym, subst}
 use mathlib.Core.Bool.{true}
 use mathlib.Core.List.{List}
 use Prim.Native.Nat.{ℕ, ◌<◌}
 use native.Mathlib.Omega.{arith}
 use borrow.Author.Tests.{lt-ltb}
 use Rattle.protocol.specs.declared.Message.{Message}
-use Rattle.protocol.specs.Net.{Net, set_entry, take_at}
+use Rattle.protocol.specs.Net.{Net, set_entry, set_channel, take_at}
 use Rattle.protocol.specs.Entries.{with_child, stops_waiting}
 use Rattle.protocol.specs.Rules.{oldest, room?, heard}
 use Rattle.protocol.specs.Shaped.{ShapedMessage, Shaped}
@@ -32,6 +32,11 @@ module _ (N : Net) (H : Shaped N) (s d : ℕ) (O : MayDeliver N s d) where
 
   pub taken : (l l' : List ℕ) → l' ≡ bytes_like l (take_at N s d 0) → (IsNet l') × (view l' ≡ take_at N s d 0) × ((M : Net) → bytes_like l' M ≡ bytes_like l M) × (mark_of l ≡ mark_of l')
   taken l l' = is-net-after l (take_at N s d 0) l' (take-shaped N H s d 0)
+
+  -- the group and the receiver of the oldest message are those of the net that is left, too
+  pub within : (g : ℕ) → g ≡ (oldest N.channel s d).group → (l l' : List ℕ) → l' ≡ bytes_like l (take_at N s d 0) → (g < (view l').groups) × (d < (view l').stations)
+  unfolding take_at set_channel
+  within g i l l' e = subst (λ (M : Net). (g < M.groups) × (d < M.stations)) (sym (taken l l' e).1) (grouped g i, receiver)
 
   -- the receiver of a request lists the sender
   pub listed : (g : ℕ) → g ≡ (oldest N.channel s d).group → Shaped (set_entry (take_at N s d 0) g d (with_child (N.entry g d) s))

@@ -9,11 +9,41 @@ use Rattle.protocol.proofs.Laws.Maps.{upd2-hit, set-again}
 use Rattle.net.specs.View.{view}
 use Rattle.net.specs.Encode.{bytes_like}
 use Rattle.net.proofs.Forms.{seen}
+use Rattle.access.specs.Inner.Nets.{IsNet}
 use Rattle.access.proofs.Laws.{own, is-net-after, made_after, made}
 use Rattle.deliver.specs.Inner.MayDeliver.{MayDeliver}
 use Rattle.deliver.proofs.Takes.{sender, receiver, grouped, waited}
 use Rattle.deliver.proofs.Adopts.{takes}
 use Rattle.deliver.proofs.listen.Goals as goal
+use Rattle.deliver.proofs.listen.Goals.{After-set_waiting}
+
+abbrev had : (c : After-set_waiting) → Entry
+had c = (view c.args.net.now).entry c.args.reply.group c.args.d
+
+-- the net once the receiver waits on the sender no longer
+abbrev waits : (c : After-set_waiting) → Net
+waits c = let a = c.args in set_entry (view a.net.now) a.reply.group a.d (stops_waiting (had c) a.s)
+
+written : (c : After-set_waiting) → c.set_waiting.new.net ≡ bytes_like c.args.net.now (waits c)
+written c =
+    let a = c.args in
+    let N = view a.net.now in
+    let H = seen _ _ c.requires.net.shape in
+    let O = c.requires.may_deliver in
+    let g = a.reply.group in
+    let mask = c.without.ensures ∙ ap (λ (e : Entry). without e.waiting a.s) c.entry-e.ensures in
+    made _ c.requires.net a.m g a.d _ (λ (e : Entry). with_waiting e c.without.result) c.requires.m_value
+    (grouped N H a.s a.d O g (λ i. (c.requires.reply_value i).group)) (receiver N H a.s a.d O) c.set_waiting.ensures
+    ∙ (λ i. bytes_like a.net.now (set_entry N g a.d (with_waiting (had c) (mask i))))
+
+after : (c : After-set_waiting) → let l = c.set_waiting.new.net in
+    (IsNet l) × (view l ≡ waits c) × ((M : Net) → bytes_like l M ≡ bytes_like c.args.net.now M)
+after c =
+    let a = c.args in
+    let N = view a.net.now in
+    let H = seen _ _ c.requires.net.shape in
+    let w = is-net-after _ (waits c) _ (waited N H a.s a.d c.requires.may_deliver a.reply.group (λ i. (c.requires.reply_value i).group)) (written c) in
+    (w.0, w.1, w.2)
 
 pub entry-e-requires : goal.entry-e-requires
 entry-e-requires c =
@@ -52,19 +82,12 @@ adopt-requires c =
     let N = view a.net.now in
     let H = seen _ _ c.requires.net.shape in
     let O = c.requires.may_deliver in
-    let g = a.reply.group in
-    let in-groups = grouped N H a.s a.d O g (λ i. (c.requires.reply_value i).group) in
-    let to = receiver N H a.s a.d O in
-    let had = N.entry g a.d in
-    let waits = set_entry N g a.d (stops_waiting had a.s) in
-    let mask = c.without.ensures ∙ ap (λ (e : Entry). without e.waiting a.s) c.entry-e.ensures in
-    let written : c.set_waiting.new.net ≡ bytes_like a.net.now waits =
-    made _ c.requires.net a.m g a.d _ (λ (e : Entry). with_waiting e c.without.result) c.requires.m_value in-groups to c.set_waiting.ensures
-    ∙ (λ i. bytes_like a.net.now (set_entry N g a.d (with_waiting had (mask i)))) in
-    let after = is-net-after _ waits _ (waited N H a.s a.d O g (λ i. (c.requires.reply_value i).group)) written in
-    let may : (MayDeliver waits a.s a.d) × (g < N.groups) = (record { between = O.between; some = O.some }, in-groups) in
-    let kept = subst (λ (M : Net). (MayDeliver M a.s a.d) × (g < M.groups)) (sym after.1) may in
-    record { net = after.0; may_deliver = kept.0; g_bound = kept.1 }
+    let x = (goal.at.adopt-requires c).After-set_waiting in
+    let left = after x in
+    let may : (MayDeliver (waits x) a.s a.d) × (a.reply.group < N.groups) =
+    (record { between = O.between; some = O.some }, grouped N H a.s a.d O a.reply.group (λ i. (c.requires.reply_value i).group)) in
+    let kept = subst (λ (M : Net). (MayDeliver M a.s a.d) × (a.reply.group < M.groups)) (sym left.1) may in
+    record { net = left.0; may_deliver = kept.0; g_bound = kept.1 }
 
 pub returns-then-eq : goal.returns-then-eq
 unfolding heard case_at hearing set_entry
@@ -74,25 +97,18 @@ returns-then-eq c =
     let H = seen _ _ c.requires.net.shape in
     let O = c.requires.may_deliver in
     let g = a.reply.group in
-    let in-groups = grouped N H a.s a.d O g (λ i. (c.requires.reply_value i).group) in
-    let to = receiver N H a.s a.d O in
-    let had = N.entry g a.d in
-    let waits = set_entry N g a.d (stops_waiting had a.s) in
-    let mask = c.without.ensures ∙ ap (λ (e : Entry). without e.waiting a.s) c.entry-e.ensures in
-    let written : c.set_waiting.new.net ≡ bytes_like a.net.now waits =
-    made _ c.requires.net a.m g a.d _ (λ (e : Entry). with_waiting e c.without.result) c.requires.m_value in-groups to c.set_waiting.ensures
-    ∙ (λ i. bytes_like a.net.now (set_entry N g a.d (with_waiting had (mask i)))) in
-    let after = is-net-after _ waits _ (waited N H a.s a.d O g (λ i. (c.requires.reply_value i).group)) written in
-    let told : c.case_of-case.result ≡ case_of had a.s a.reply =
+    let x = (goal.at.returns-then-eq c).After-set_waiting in
+    let told : c.case_of-case.result ≡ case_of (had x) a.s a.reply =
     c.case_of-case.ensures ∙ ap (λ (e : Entry). case_of e a.s a.reply) c.entry-e.ensures in
-    let e = stops_waiting had a.s in
-    let taken = sym (takes had a.s a.reply c.eq.ensures told) ∙ c.if-eq.true in
-    let there : waits.entry g a.d ≡ e = upd2-hit N.entry g a.d e in
+    let e = stops_waiting (had x) a.s in
+    let taken = sym (takes (had x) a.s a.reply c.eq.ensures told) ∙ c.if-eq.true in
+    let there : (waits x).entry g a.d ≡ e = upd2-hit N.entry g a.d e in
     let same : oldest (view c.set_waiting.new.net).channel a.s a.d ≡ a.reply =
-    ap (λ (M : Net). oldest M.channel a.s a.d) after.1 ∙ sym c.requires.reply_value in
-    let put = made_after a.m g a.d _ waits _ _ (λ (e : Entry). adopting e a.s (oldest (view c.set_waiting.new.net).channel a.s a.d)) c.requires.m_value
-    c.requires.net.stations_most c.requires.net.groups_most in-groups to written c.adopt.ensures
-    ∙ (λ i. bytes_like a.net.now (set_entry waits g a.d (adopting (there i) a.s (same i))))
+    ap (λ (M : Net). oldest M.channel a.s a.d) (after x).1 ∙ sym c.requires.reply_value in
+    let put = made_after a.m g a.d _ (waits x) _ _ (λ (e : Entry). adopting e a.s (oldest (view c.set_waiting.new.net).channel a.s a.d)) c.requires.m_value
+    c.requires.net.stations_most c.requires.net.groups_most
+    (grouped N H a.s a.d O g (λ i. (c.requires.reply_value i).group)) (receiver N H a.s a.d O) (written x) c.adopt.ensures
+    ∙ (λ i. bytes_like a.net.now (set_entry (waits x) g a.d (adopting (there i) a.s (same i))))
     ∙ ap (bytes_like a.net.now) (set-again N g a.d e (adopting e a.s a.reply)) in
     (told, rw taken put)
 
@@ -100,18 +116,7 @@ pub returns-else-eq : goal.returns-else-eq
 unfolding heard case_at hearing
 returns-else-eq c =
     let a = c.args in
-    let N = view a.net.now in
-    let H = seen _ _ c.requires.net.shape in
-    let O = c.requires.may_deliver in
-    let g = a.reply.group in
-    let in-groups = grouped N H a.s a.d O g (λ i. (c.requires.reply_value i).group) in
-    let to = receiver N H a.s a.d O in
-    let had = N.entry g a.d in
-    let waits = set_entry N g a.d (stops_waiting had a.s) in
-    let mask = c.without.ensures ∙ ap (λ (e : Entry). without e.waiting a.s) c.entry-e.ensures in
-    let written : c.set_waiting.new.net ≡ bytes_like a.net.now waits =
-    made _ c.requires.net a.m g a.d _ (λ (e : Entry). with_waiting e c.without.result) c.requires.m_value in-groups to c.set_waiting.ensures
-    ∙ (λ i. bytes_like a.net.now (set_entry N g a.d (with_waiting had (mask i)))) in
-    let told : c.case_of-case.result ≡ case_of had a.s a.reply =
+    let x = (goal.at.returns-else-eq c).After-set_waiting in
+    let told : c.case_of-case.result ≡ case_of (had x) a.s a.reply =
     c.case_of-case.ensures ∙ ap (λ (e : Entry). case_of e a.s a.reply) c.entry-e.ensures in
-    (told, rw (sym (takes had a.s a.reply c.eq.ensures told) ∙ c.if-eq.false) written)
+    (told, rw (sym (takes (had x) a.s a.reply c.eq.ensures told) ∙ c.if-eq.false) (written x))
