@@ -35,13 +35,24 @@ impl Cell for Entries<'_> {
     }
 }
 
+// Every byte of a net, one after the other: copied by the library, so many would be a call of the C library, of which the archive for C is to
+// need no more than it did.
+fn copy(net: &[u8], out: &mut [u8; NET_LENGTH])
+    requires { length net.now ≡ net_length }
+    ensures { out.new ≡ net.now }
+{
+    for i in 0..NET_LENGTH {
+        out[i] = net[i];
+    }
+}
+
 // The whole net: its bytes as they are, the other mark, and each entry where it stands now. What is read is the slice that was tested, and no
 // array of it is made: its length is asked once.
 fn carry(net: &[u8], m: Mark, out: &mut [u8; NET_LENGTH], n: Mark)
     requires { length net.now ≡ net_length }
     ensures { out.new ≡ carried net.now m n }
 {
-    out.copy_from_slice(net);
+    copy(net, out);
     out[7] = mark_byte(n);
     let entries = Entries {
         net,

@@ -9,4 +9,4 @@ pub returns : goal.returns
 unfolding carried remarked splice
 returns c = let a = c.args in
     c.make_rows.ensures
-    ∙ (λ i. in_rows (entry_carried a.net.now a.m a.n) (splice (c.copy_from_slice.ensures.after i) 7 (c.mark_byte.ensures i ∷ [])) most_groups most_stations)
+    ∙ (λ i. in_rows (entry_carried a.net.now a.m a.n) (splice (c.copy.ensures i) 7 (c.mark_byte.ensures i ∷ [])) most_groups most_stations)
