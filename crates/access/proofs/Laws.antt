@@ -145,8 +145,11 @@ module _ (l : List ℕ) (r : IsNet l) where
     name-is = (name-lent, rw name-lent ((seen (mark_of l) l r.shape).plan.named g h).1)
 
   -- where its entries stand there is room for them
-  pub own : (g p : ℕ) → g < (view l).groups → p < (view l).stations → (g < most_groups) × (p < most_stations)
-  own g p hg hp = (omega (arith, hg, r.groups_most), omega (arith, hp, r.stations_most))
+  pub few : (g p : ℕ) → g < (view l).groups → p < (view l).stations → (g < most_groups) × (p < most_stations)
+  few g p hg hp = (omega (arith, hg, r.groups_most), omega (arith, hp, r.stations_most))
+
+  pub own : (g p : ℕ) → g < (view l).groups → p < (view l).stations → (length l ≡ net_length) × (g < most_groups) × (p < most_stations)
+  own g p hg hp = let w = few g p hg hp in (r.long, w.0, w.1)
 
   -- an entry of the net itself made into another
   pub made : (m : Mark) (g p : ℕ) (l' : List ℕ) (f : Entry → Entry) → m ≡ mark_of l → g < (view l).groups → p < (view l).stations → EntryMade m l l' g p f

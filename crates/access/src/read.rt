@@ -28,6 +28,16 @@ pub struct NetBytes<'a> {
     ghost is_marked: { mark ≡ mark_of bytes.now },
 }
 
+// Whether bytes are a net in the form of this mark.
+fn passes(bytes: &[u8], mark: Mark) -> bool
+    ensures { result ≡ shaped_as mark bytes.now }
+{
+    match mark {
+        Mark::Saved => shape::whole::shaped(bytes),
+        Mark::Working => shape::whole::shaped_as(bytes, mark),
+    }
+}
+
 fn read_entry(s: &[u8], at: usize) -> Entry
     requires { at + entry_size ≤ length s.now }
     ensures { result ≡ entry_of (part entry_size s.now at) }
@@ -69,7 +79,7 @@ impl<'a> NetBytes<'a> {
         ensures ok { IfOk result (λ net. (net.bytes.now ≡ bytes.now) × (net.mark ≡ mark) × (shaped_as mark bytes.now ≡ true)) }
         ensures err { IfErr result (λ k. (k ≡ NotANet) × (shaped_as mark bytes.now ≡ false)) }
     {
-        if !shape::whole::shaped_as(bytes, mark) {
+        if !passes(bytes, mark) {
             return Err(Refusal::NotANet);
         }
         Ok(NetBytes { bytes, mark })

@@ -6,7 +6,7 @@ use Rattle.protocol.specs.Rules.{oldest}
 use Rattle.net.specs.View.{view}
 use Rattle.net.proofs.Forms.{seen}
 use Rattle.access.specs.Inner.Nets.{EntryMade}
-use Rattle.access.proofs.Laws.{own, made_then}
+use Rattle.access.proofs.Laws.{few, made_then}
 use Rattle.deliver.proofs.Takes.{sender, receiver}
 use Rattle.deliver.proofs.adopt.Goals as goal
 
@@ -22,13 +22,13 @@ pub set_clock-requires : goal.set_clock-requires
 set_clock-requires c =
     let a = c.args in
     let H = seen _ _ c.requires.net.shape in
-    own _ c.requires.net _ _ c.requires.g_bound (receiver (view a.net.now) H a.s a.d c.requires.may_deliver)
+    few _ c.requires.net _ _ c.requires.g_bound (receiver (view a.net.now) H a.s a.d c.requires.may_deliver)
 
 pub set_parent-requires : goal.set_parent-requires
 set_parent-requires c =
     let a = c.args in
     let H = seen _ _ c.requires.net.shape in
-    own _ c.requires.net _ _ c.requires.g_bound (receiver (view a.net.now) H a.s a.d c.requires.may_deliver)
+    few _ c.requires.net _ _ c.requires.g_bound (receiver (view a.net.now) H a.s a.d c.requires.may_deliver)
 
 pub returns : goal.returns
 returns c =

@@ -8,7 +8,7 @@ use Rattle.net.specs.View.{view}
 use Rattle.net.specs.Encode.{bytes_like}
 use Rattle.net.proofs.Forms.{seen}
 use Rattle.access.specs.Inner.Nets.{IsNet}
-use Rattle.access.proofs.Laws.{own, is-net-after, made_after}
+use Rattle.access.proofs.Laws.{few, is-net-after, made_after}
 use Rattle.deliver.proofs.Takes.{sender, receiver, grouped, taken, within, listed, room-kept}
 use Rattle.deliver.proofs.answer.Goals as goal
 use Rattle.deliver.proofs.answer.Goals.{After-set_children}
@@ -95,7 +95,7 @@ set_children-requires c =
     let H = seen _ _ c.requires.net.shape in
     let O = c.requires.may_deliver in
     let w = within N H a.s a.d O a.g c.requires.g_value.0 _ _ c.take_at.ensures in
-    own _ (taken N H a.s a.d O _ _ c.take_at.ensures).0 _ _ w.0 w.1
+    few _ (taken N H a.s a.d O _ _ c.take_at.ensures).0 _ _ w.0 w.1
 
 pub send-requires : goal.send-requires
 unfolding take_at set_channel set_entry room?

@@ -10,7 +10,7 @@ use Rattle.net.specs.View.{view}
 use Rattle.net.specs.Encode.{bytes_like}
 use Rattle.net.proofs.Forms.{seen}
 use Rattle.access.specs.Inner.Nets.{IsNet}
-use Rattle.access.proofs.Laws.{own, is-net-after, made_after, made}
+use Rattle.access.proofs.Laws.{few, is-net-after, made_after, made}
 use Rattle.deliver.specs.Inner.MayDeliver.{MayDeliver}
 use Rattle.deliver.proofs.Takes.{sender, receiver, grouped, waited}
 use Rattle.deliver.proofs.Adopts.{takes}
@@ -73,7 +73,7 @@ set_waiting-requires c =
     let g = a.reply.group in
     let in-groups = grouped N H a.s a.d O g (λ i. (c.requires.reply_value i).group) in
     let to = receiver N H a.s a.d O in
-    own _ c.requires.net _ _ in-groups to
+    few _ c.requires.net _ _ in-groups to
 
 pub adopt-requires : goal.adopt-requires
 unfolding set_entry near? station?
