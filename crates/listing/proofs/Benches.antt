@@ -58,10 +58,14 @@ module _ (stored : List ℕ) (beyond : ℕ) where
     unfolding fresh_outcome
     fresh-is = rw (eq-eqb _ _ long) refl
 
-    pub not-begun : fresh_outcome (plan_part stored) net ≢ 0 → fresh_outcome (plan_part stored) net ≡ stored_outcome stored beyond
-    not-begun n =
-        let f = is_false (plan_shaped (plan_part stored)) (λ t. n (fresh-is ∙ rw t refl)) in
-        fresh-is ∙ rw f (unplanned f)
+    no-plan : fresh_outcome (plan_part stored) net ≢ 0 → plan_shaped (plan_part stored) ≡ false
+    no-plan n = is_false (plan_shaped (plan_part stored)) (λ t. n (fresh-is ∙ rw t refl))
+
+    pub not-begun : fresh_outcome (plan_part stored) net ≢ 0 → 9 ≡ stored_outcome stored beyond
+    not-begun n = unplanned (no-plan n)
+
+    pub same-refusal : fresh_outcome (plan_part stored) net ≢ 0 → fresh_outcome (plan_part stored) net ≡ stored_outcome stored beyond
+    same-refusal n = fresh-is ∙ rw (no-plan n) (not-begun n)
 
     pub begun : fresh_outcome (plan_part stored) net ≡ 0 → (length_outcome (length stored - plan_length + beyond) ≡ stored_outcome stored beyond)
         × (net_after_fresh (plan_part stored) net ≡ bytes_of (fresh (plan_in (plan_part stored))))

@@ -1,14 +1,20 @@
-// The lines of the listing. Each function adds to the end of a text.
+// The lines of the listing. The functions that take a text add to its end.
 ghost use Rattle.std.specs.Prelude.{◌≡◌, ◌+◌, ◌≤◌, ◌<◌, length};
 ghost use Rattle.protocol.specs.Refusals.{number};
 ghost use Rattle.protocol.specs.Net.{Net, in_channels};
+ghost use Rattle.net.specs.View.{view};
+ghost use Rattle.access.specs.Inner.Nets.{IsNet};
 ghost use Rattle.access.specs.Seen.{net_of};
+ghost use Rattle.text.specs.Inner.Within.{WroteWithin};
 ghost use Rattle.text.specs.Inner.Added.{Added};
 ghost use Rattle.listing.specs.Lines.{run_line, replies_line, station_line, station_lines, group_line, group_texts, listing, refused_text};
 
 use access::read::NetBytes;
 use protocol::{Refusal, Replies, Tally};
 use text::Text;
+
+// The line of a refusal.
+const REFUSED: &[u8] = b"refused #\n";
 
 // The tally, and how many messages are left in channels.
 fn run_line<const ROOM: usize>(text: &mut Text<ROOM>, t: Tally, left: u32)
@@ -84,7 +90,7 @@ fn group_texts<const ROOM: usize>(net: &NetBytes, text: &mut Text<ROOM>)
 }
 
 // The listing of a net after a run that began with no message: those sent, and not delivered or lost, are left in channels.
-pub fn listing<const ROOM: usize>(net: &NetBytes, t: Tally, text: &mut Text<ROOM>)
+pub fn add_listing<const ROOM: usize>(net: &NetBytes, t: Tally, text: &mut Text<ROOM>)
     requires { (t.sent ≡ t.delivered + t.lost + in_channels (net_of net.now)) × (length text.old + 16561 ≤ ROOM) }
     ensures { Added 16561 text.old text.new (listing (net_of net.now) t) }
 {
@@ -94,9 +100,30 @@ pub fn listing<const ROOM: usize>(net: &NetBytes, t: Tally, text: &mut Text<ROOM
 }
 
 // The refusal, with its number.
-pub fn refused_text<const ROOM: usize>(text: &mut Text<ROOM>, k: Refusal)
+pub fn add_refused<const ROOM: usize>(text: &mut Text<ROOM>, k: Refusal)
     requires { length text.old + 19 ≤ ROOM }
     ensures { Added 19 text.old text.new (refused_text (number k)) }
 {
-    text.put_filled_one(b"refused #\n", k as u32);
+    text.put_filled_one(REFUSED, k as u32);
+}
+
+// The same listing at the front of a lent buffer, and the place after it.
+pub fn listing(net: &[u8], t: Tally, out: &mut [u8]) -> usize
+    requires net { IsNet net.now }
+    requires sent_value { (t.sent ≡ t.delivered + t.lost + in_channels (view net.now)) × (16561 ≤ length out.old) }
+    ensures { WroteWithin 16561 out.old out.new 0 result (listing (view net.now) t) }
+{
+    let mut text = Text::<16561>::new();
+    add_listing(&NetBytes::of(net), t, &mut text);
+    let n = text.len();
+    out[..n].copy_from_slice(text.as_slice());
+    n
+}
+
+// A refusal with any number at the front of a lent buffer, and the place after it.
+pub fn refused_text(out: &mut [u8], k: u8) -> usize
+    requires { 19 ≤ length out.old }
+    ensures { WroteWithin 19 out.old out.new 0 result (refused_text k) }
+{
+    text::put_filled_one(out, 0, REFUSED, u32::from(k))
 }

@@ -1,20 +1,17 @@
 // The report on an input: the listing, or the refusal.
-ghost use Rattle.std.specs.Prelude.{◌≡◌, ◌+◌, ◌≤◌, ◌<◌, length};
+ghost use Rattle.std.specs.Prelude.{◌≡◌, ◌≤◌, ◌<◌, length};
 ghost use Rattle.bits.specs.Parts.{Wrote};
 ghost use Rattle.protocol.specs.Fresh.{fresh};
 ghost use Rattle.protocol.specs.Refusals.{outcome_of};
 ghost use Rattle.layout.specs.Layout.{net_length};
 ghost use Rattle.net.specs.Encode.{bytes_of};
 ghost use Rattle.run.specs.Runs.{told};
-ghost use Rattle.text.specs.Inner.Added.{Added};
 ghost use Rattle.listing.specs.Bench.{plan_part, text_room, stored_outcome, stored_text};
 ghost use Rattle.forms.specs.Plans.{plan_in};
 
 use crate::lines;
-use access::read::NetBytes;
 use layout::offset::{NET_LENGTH, PLAN_LENGTH};
 use protocol::{Refusal, Tally};
-use text::Text;
 
 // `stored_length` and `text_room` of specs/Bench.antt: a plan and the longest script, and room for every text.
 pub const STORED_LENGTH: usize = 16496;
@@ -41,30 +38,18 @@ fn counts_of(ran: Result<Tally, Refusal>) -> Tally
     ran.unwrap_or_default()
 }
 
-// The text of the report.
-fn text_of(stored: &[u8], beyond: usize, text: &mut Text<TEXT_ROOM>)
-    requires { (length text.old + 16561 ≤ TEXT_ROOM) × (beyond < 9223372036854775808) }
-    ensures { Added 16561 text.old text.new (stored_text stored.now beyond) }
-{
-    let mut net = [0u8; NET_LENGTH];
-    match stored_outcome(stored, beyond, &mut net) {
-        Ok(()) => {
-            let tally = counts_of(run::run(&mut net, &stored[PLAN_LENGTH..]));
-            lines::listing(&NetBytes::of(&net), tally, text);
-        }
-        Err(k) => lines::refused_text(text, k),
-    }
-}
-
 // The report on the bytes that are stored of an input, where `beyond` more were counted. It is put at the front of a lent buffer, as its
 // theorem has it (`report-determined`).
 pub fn report(stored: &[u8], beyond: usize, out: &mut [u8]) -> usize
     requires { (text_room ≤ length out.old) × (beyond < 9223372036854775808) }
     ensures { Wrote out.old out.new 0 result (stored_text stored.now beyond) × (result ≤ text_room) }
 {
-    let mut text = Text::new();
-    text_of(stored, beyond, &mut text);
-    let n = text.len();
-    out[..n].copy_from_slice(text.as_slice());
-    n
+    let mut net = [0u8; NET_LENGTH];
+    match stored_outcome(stored, beyond, &mut net) {
+        Ok(()) => {
+            let tally = counts_of(run::run(&mut net, &stored[PLAN_LENGTH..]));
+            lines::listing(&net, tally, out)
+        }
+        Err(k) => lines::refused_text(out, k as u8),
+    }
 }

@@ -1,15 +1,36 @@
 -- What is added to a text, one after the other.
+--     added_put                   what was put into the array of a text at its end
 --     added_none, _then_          nothing added; one text added, and another behind it
 --     added_within, added-as      with the room said; the same text, said otherwise
---     dash-after                  a dash if nothing was added
 --     row_more, row-all           one text more in a row, and all of them
-use Rattle.std.proofs.Common.{◌≡◌, ℕ, ◌+◌, ◌*◌, ◌≤◌, Bool, not, List, [], ◌∷◌, ◌++◌, length, eqb, ltb, sym, ap, ◌∙◌, subst, arith, append_assoc, add-one, length-append}
-use Rattle.std.proofs.lemmas.List.{append-nil}
-use Prim.Native.Char.{code}
+use Rattle.std.proofs.Common.{◌≡◌, ℕ, ◌+◌, ◌*◌, ◌≤◌, Bool, List, [], ◌++◌, length, take, drop, ltb, sym, ap, ◌∙◌, subst, arith, append_assoc, add-one, length-append, length-take-le, take_all}
+use Rattle.std.proofs.lemmas.List.{append-nil, take-append-le}
+use Rattle.std.proofs.lemmas.List.Edits.{sets-eq}
 use native.Mathlib.Nat.{mul-suc}
-use borrow.Author.Tests.{lt-ltb, le-ltb, eq-eqb, ne_eqb}
-use Rattle.text.specs.Text.{some, row, byte_if, or_dash}
+use Rattle.bits.specs.Parts.{splice}
+use Rattle.text.specs.Text.{row}
+use Rattle.text.specs.Inner.Within.{WroteWithin}
 use Rattle.text.specs.Inner.Added.{Added}
+use Rattle.text.proofs.Puts.{some-put}
+
+-- the front of a list up to the end of what is spliced into it
+take-splice : (o : List ℕ) (n : ℕ) (xs : List ℕ) → n + length xs ≤ length o → take (n + length xs) (splice o n xs) ≡ take n o ++ xs
+unfolding splice
+take-splice o n xs h =
+    let long : length (take n o ++ xs) ≡ n + length xs = omega (arith, length-append (take n o) xs, length-take-le n o (omega arith)) in
+    ap (take (n + length xs)) (sets-eq xs o n h)
+    ∙ take-append-le (n + length xs) (take n o ++ xs) (drop (n + length xs) o) (omega arith)
+    ∙ take_all (n + length xs) (take n o ++ xs) (omega arith)
+
+-- a text is the front of its array, and what is put behind that front, where there is room for it, is added to the text
+pub added_put : {o o' xs t : List ℕ} {n r k : ℕ} → WroteWithin k o o' n r xs → take n o ≡ t → n ≤ length o → length t + k ≤ length o
+    → Added k t (take r o') xs
+added_put {o} {o'} {xs} {t} {n} W e h room =
+    let fits : n + length xs ≤ length o = omega (arith, W.wrote.next, W.within, ap length e, length-take-le n o h) in
+    record {
+      all = (λ i. take (W.wrote.next i) (W.wrote.bytes i)) ∙ take-splice o n xs fits ∙ ap (λ (l : List ℕ). l ++ xs) e;
+      within = omega (arith, W.wrote.next, W.within);
+    }
 
 pub added_none : (k : ℕ) (o : List ℕ) → Added k o o []
 added_none k o = record { all = sym (append-nil o); within = omega arith }
@@ -27,30 +48,13 @@ pub ◌then◌ : {o o' o'' xs ys : List ℕ} {j k : ℕ} → Added j o o' xs →
 pub added-as : {o o' xs ys : List ℕ} {k : ℕ} → xs ≡ ys → Added k o o' xs → Added k o o' ys
 added-as {o} {o'} {k = k} e A = subst (λ (zs : List ℕ). Added k o o' zs) e A
 
--- ---- the code asks whether anything stands there by asking whether the text has grown
-some-put : (n : ℕ) (o xs : List ℕ) → n ≡ length o → ltb n (length (o ++ xs)) ≡ some xs
-unfolding some
-some-put n o [] e = le-ltb n _ (omega (arith, length-append o []))
-some-put n o (b ∷ bs) e = lt-ltb n _ (omega (arith, length-append o (b ∷ bs)))
-
-none-put : (n : ℕ) (o xs : List ℕ) → n ≡ length o → eqb (length (o ++ xs)) n ≡ not (some xs)
-unfolding some
-none-put n o [] e = eq-eqb _ n (omega (arith, length-append o []))
-none-put n o (b ∷ bs) e = ne_eqb _ n (λ i. omega (arith, i, length-append o (b ∷ bs)))
-
-pub dash-after : {o o' o'' xs : List ℕ} {k : ℕ} (start : ℕ) → start ≡ length o → Added k o o' xs
-    → Added 1 o' o'' (byte_if (eqb (length o') start) (code "-")) → Added (k + 1) o o'' (or_dash xs)
-dash-after {o} {o'} {xs = xs} start first A B =
-    let e : eqb (length o') start ≡ not (some xs) = ap (λ (l : List ℕ). eqb (length l) start) A.all ∙ none-put start o xs first in
-    A then added-as (ap (λ (t : Bool). byte_if t (code "-")) e) B
-
--- one text more in a row, where k bytes are enough for each
+-- one text more in a row, where k bytes are enough for each; the code asks whether anything stands there by asking whether the text has grown
 pub row_more : {o o' o'' : List ℕ} {k : ℕ} (start i : ℕ) (f : ℕ → Bool → List ℕ) → start ≡ length o → Added (k * i) o o' (row i f)
     → Added k o' o'' (f i (ltb start (length o'))) → Added (k * (i + 1)) o o'' (row (i + 1) f)
 unfolding row
 row_more {o} {o'} start i f first A B =
-    let e : ltb start (length o') ≡ some (row i f) = ap (λ (l : List ℕ). ltb start (length l)) A.all ∙ some-put start o (row i f) first in
-    rw (add-one, mul-suc) (A then added-as (ap (f i) e) B)
+    let grown : length o' ≡ start + length (row i f) = omega (arith, first, ap length A.all, length-append o (row i f)) in
+    rw (add-one, mul-suc) (A then added-as (ap (f i) (some-put start (length o') (row i f) grown)) B)
 
 -- the row is done, and there is room for it
 pub row-all : {o o' : List ℕ} {j k : ℕ} (i n : ℕ) (f : ℕ → Bool → List ℕ) → i ≡ n → j ≤ k → Added j o o' (row i f) → Added k o o' (row n f)

@@ -1,2 +1,3 @@
 -- What only functions that require something of their callers speak of.
+pub mod Within
 pub mod Added

@@ -2,7 +2,7 @@ use Rattle.std.proofs.Common.{◌≡◌, length, sym, ◌∙◌, arith}
 use Rattle.std.proofs.lemmas.Result.{err_from_is_err_and}
 use Rattle.protocol.proofs.Refusals.{number-positive}
 use Rattle.layout.specs.Layout.{net_length}
-use Rattle.listing.proofs.Benches.{too_short, not-begun, begun}
+use Rattle.listing.proofs.Benches.{too_short, same-refusal, begun}
 use Rattle.listing.proofs.report.stored_outcome.Goals as goal
 
 pub returns-then-stored-lt-PLAN_LENGTH-clause-outcome : goal.returns-then-stored-lt-PLAN_LENGTH-clause-outcome
@@ -13,7 +13,7 @@ returns-in_err-fresh-clause-outcome c =
     let long : length c.args.net.now ≡ net_length = omega arith in
     let p = err_from_is_err_and c.from_residual.result c.from_residual.ensures.1 in
     let is = c.in_err-fresh.ensures.0 in
-    rw (p.1, p.2) (is ∙ not-begun _ _ _ long (λ z. omega (arith, number-positive c.in_err-fresh.field-0.0, is, z)))
+    rw (p.1, p.2) (is ∙ same-refusal _ _ _ long (λ z. omega (arith, number-positive c.in_err-fresh.field-0.0, is, z)))
 
 pub returns-clause-outcome : goal.returns-clause-outcome
 returns-clause-outcome c =
