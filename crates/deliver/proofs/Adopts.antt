@@ -9,7 +9,8 @@ use Rattle.protocol.specs.declared.Message.{Message}
 use Rattle.protocol.specs.Cases.{case_of, case_number, adopts}
 use lib.Dec.{eqb}
 
-by_number : (x : Case) → sameb the_type x Adopted ≡ eqb (case_number x) (case_number Adopted)
+-- it is that one exactly if its number is that one's
+pub by_number : (x : Case) → sameb the_type x Adopted ≡ eqb (case_number x) (case_number Adopted)
 unfolding case_number
 by_number Adopted = refl
 by_number NotTentative = refl

@@ -118,3 +118,11 @@ pub fn case_of(e: Entry, s: u8, m: Message) -> Case
     }
     Case::Adopted
 }
+
+// The number of a case.
+#[tactic(auto, unfolding(protocol::specs::Cases::case_number))]
+pub fn case_number(c: Case) -> u8
+    ensures { result ≡ reply.case_number c }
+{
+    c as u8
+}

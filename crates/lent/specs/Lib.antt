@@ -1,2 +1,3 @@
 -- Records that the caller lends.
 pub mod Lists
+pub mod Inner

@@ -36,13 +36,13 @@ pub fn kep_fresh(plan: &[u8], net: &mut [u8]) -> u32
 }
 
 // A step's answer as one number.
-#[tactic(auto, unfolding(crate::specs::Face::step_word, protocol::specs::Cases::case_number))]
+#[tactic(auto, unfolding(crate::specs::Face::step_word))]
 fn step_word(answer: Result<Option<Case>, Refusal>) -> u32
     ensures { result ≡ step_word (told answer) }
 {
     match answer {
         Ok(None) => 0,
-        Ok(Some(case)) => 256 * (case as u32),
+        Ok(Some(case)) => 256 * u32::from(entries::case_number(case)),
         Err(refusal) => refusal as u32,
     }
 }

@@ -1,4 +1,4 @@
-use Rattle.std.proofs.Common.{◌*◌, refl, sym, ap, ◌∙◌, arith}
+use Rattle.std.proofs.Common.{ℕ, ◌*◌, take, refl, sym, ap, ◌∙◌, arith}
 use Rattle.std.proofs.lemmas.List.{take_all}
 use Rattle.visit.specs.Lists.{reach_bytes}
 use Rattle.lent.proofs.Records.{one_more}
@@ -14,4 +14,4 @@ loop-i-preserved c = one_more c.loop-i.list c.args.bytes.now c.loop-i.i (omega a
 pub returns : goal.returns
 returns c =
     let i = c.loop-i.i in
-    ap reach_bytes (sym (take_all i c.loop-i.list (omega arith))) ∙ c.loop-i.invariant ∙ take_all (3 * i) c.args.bytes.now (omega arith)
+    ap reach_bytes (sym (take_all i c.loop-i.list (omega arith))) ∙ c.loop-i.invariant ∙ ap (λ (k : ℕ). take (3 * k) c.args.bytes.now) (omega arith)

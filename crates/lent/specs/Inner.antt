@@ -1,0 +1,2 @@
+-- What only inner contracts need.
+pub mod Filling
