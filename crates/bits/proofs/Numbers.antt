@@ -2,8 +2,9 @@
 --     number_lt           a number of w bytes is below 256 ^ w
 --     number-bytes        decode of encode
 --     bytes-number        encode of decode
+--     onto-append         a number of two widths is one number of both joined
 use mathlib.Core.Path.{◌≡◌, refl, sym, ap, ap₂, ◌∙◌}
-use mathlib.Core.List.{List, [], ◌∷◌}
+use mathlib.Core.List.{List, [], ◌∷◌, ◌++◌}
 use Prim.Native.Nat.{ℕ, zero, suc, ◌+◌, ◌*◌, ◌/◌, ◌%◌, ◌^◌, ◌<◌}
 use native.Mathlib.Nat.{pow-suc, div-one, mod-eq_of_lt, mod-one, mul-add-div_right, mul_comm}
 use native.Mathlib.Omega.{arith}
@@ -88,3 +89,9 @@ bytes-number (b ∷ bs) h =
     (ap₂ ◌∷◌
     (ap (λ (x : ℕ). x % 256) (digits_div b (number_lt bs (λ i. h (suc i)))) ∙ mod-eq_of_lt (h 0))
     (bytes_high (length bs) b (number bs) ∙ bytes-number bs (λ i. h (suc i))))
+
+-- ---- two widths
+pub onto-append : (a : ℕ) (xs ys : List ℕ) → onto a (xs ++ ys) ≡ onto (onto a xs) ys
+unfolding onto
+onto-append a [] ys = refl
+onto-append a (x ∷ xs) ys = onto-append (a * 256 + x) xs ys

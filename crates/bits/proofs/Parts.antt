@@ -1,5 +1,6 @@
 -- Laws of parts and splices.
 --     part-splice, part-splice-out    what a splice puts in, and what it leaves alone
+--     number_at-add                   a number of two widths joined
 --     wrote_then                      one thing put after another
 --     put_number                      the bytes of a number, put in the place of as many
 --     part-lent, put_whole, lent_back what a part that is lent holds, and what the whole is when it comes back
@@ -7,14 +8,14 @@
 use mathlib.Core.Path.{◌≡◌, refl, sym, ap, ap₂, ◌∙◌}
 use mathlib.Core.List.{List, [], ◌∷◌, ◌++◌, append_assoc}
 use mathlib.Core.Logic.{◌⊎◌, inl, inr, ⊎_elim}
-use Prim.Native.Nat.{ℕ, zero, suc, ◌+◌, ◌-◌, ◌^◌, ◌≤◌, ◌<◌}
+use Prim.Native.Nat.{ℕ, zero, suc, ◌+◌, ◌-◌, ◌*◌, ◌^◌, ◌≤◌, ◌<◌}
 use native.Mathlib.Nat.{zero-add, add-zero, add-suc, suc-add}
 use native.Mathlib.Omega.{arith}
 use lib.ListN.{length, get_or, take, drop, set, replicate, length-set, length-drop, length-append, take-append-drop, get_or-append}
 use lib.Seq.{sets, sets-eq, length-take-le, length-sets, get_or-set_same, get_or-set_other, get_or-take, get_or-drop, get_or-append-add, ext_get_or, take-set-lt, take-set-le, drop-set-lt, drop-set-add, drop-drop}
-use Rattle.bits.specs.Numbers.{Bytes, number, bytes}
+use Rattle.bits.specs.Numbers.{Bytes, onto, number, bytes}
 use Rattle.bits.specs.Parts.{part, number_at, splice, Wrote}
-use Rattle.bits.proofs.Numbers.{length-bytes, number_lt, bytes-number}
+use Rattle.bits.proofs.Numbers.{length-bytes, number_lt, bytes-number, onto-append, onto-split}
 
 -- ---- the elements of a splice, one by one
 pub length-splice : (l : List ℕ) (a : ℕ) (vs : List ℕ) → length (splice l a vs) ≡ length l
@@ -82,6 +83,13 @@ pub part-add : (v w : ℕ) (l : List ℕ) (i : ℕ) → part (v + w) l i ≡ par
 unfolding part
 part-add zero w l i = rw (zero-add, add-zero)
 part-add (suc v) w l i = rw suc-add (ap (λ (r : List ℕ). get_or l i 0 ∷ r) (part-add v w l (suc i) ∙ ap (λ (n : ℕ). part v l (suc i) ++ part w l n) (omega arith)))
+
+-- and so a number
+pub number_at-add : (v w : ℕ) (l : List ℕ) (i : ℕ) → number_at (v + w) l i ≡ number_at v l i * 256 ^ w + number_at w l (i + v)
+unfolding number_at number
+number_at-add v w l i =
+    ap (onto 0) (part-add v w l i) ∙ onto-append 0 (part v l i) (part w l (i + v)) ∙ onto-split (onto 0 (part v l i)) (part w l (i + v))
+    ∙ ap (λ (n : ℕ). onto 0 (part v l i) * 256 ^ n + onto 0 (part w l (i + v))) (length_part w l (i + v))
 
 -- ---- a part that is lent, `&s[a..a + k]`, and the list once ys comes back in its place
 abbrev pub lent : ℕ → ℕ → List ℕ → List ℕ
@@ -159,6 +167,18 @@ splice-part n l a b vs h f =
     sym (lent_back a n l b vs h)
     ∙ ap (λ (ys : List ℕ). back a n l (splice ys b vs)) (part-lent n l a f)
     ∙ put_whole a n l (splice (part n l a) b vs) (length-splice _ b vs ∙ length_part n l a) f
+
+-- one element more
+pub splice-more : (l s : List ℕ) (a i : ℕ) (xs : List ℕ) (v : ℕ) → s ≡ splice l a xs → length xs ≡ i → set s (a + i) v ≡ splice l a (xs ++ (v ∷ []))
+unfolding splice
+splice-more l s a i xs v e n = (λ j. set (e j) (a + sym n j) v) ∙ splice-append l a xs (v ∷ [])
+
+-- the first i elements of xs have been put, and now one more
+pub part-more : (l s : List ℕ) (a i : ℕ) (xs : List ℕ) → s ≡ splice l a (part i xs 0) → set s (a + i) (get_or xs i 0) ≡ splice l a (part (i + 1) xs 0)
+part-more l s a i xs e = splice-more l s a i (part i xs 0) (get_or xs i 0) e (length_part i xs 0) ∙ ap (splice l a) (sym more)
+  where
+    more : part (i + 1) xs 0 ≡ part i xs 0 ++ (get_or xs i 0 ∷ [])
+    more = part-add i 1 xs 0 ∙ ap (λ (k : ℕ). part i xs 0 ++ part 1 xs k) (zero-add i) ∙ unfold part in refl
 
 -- ---- a part of two lists joined, of a list as long as itself, and of zeros
 pub part_left : (w : ℕ) (xs ys : List ℕ) (k : ℕ) → k + w ≤ length xs → part w (xs ++ ys) k ≡ part w xs k

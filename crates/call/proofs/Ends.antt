@@ -7,8 +7,8 @@ use Prim.Native.Nat.{ℕ, suc, ◌-◌, ◌<◌}
 use native.Mathlib.Omega.{arith}
 use lib.Dec.{ltb}
 use lib.ListN.{length}
-use borrow.Author.Tests.{ltb-true, eq-eqb, ne_eqb}
-use Rattle.bits.proofs.Cases.{and_l, and_r}
+use borrow.Author.Tests.{ltb-true, lt-ltb, eq-eqb, ne_eqb}
+use Rattle.bits.proofs.Cases.{and_l, and_r, and_both}
 use Rattle.tree.specs.Tree.{on_tree}
 use Rattle.tree.specs.Reach.{reach}
 use Rattle.tree.specs.Flood.{spread}
@@ -26,6 +26,10 @@ use Rattle.call.specs.Answers.{called_in, list_after_call, CallEnd}
 use Rattle.net.proofs.Forms.{seen}
 
 -- a group and a station of the net, as the test has them
+pub both-in : (N : Net) (g c : ℕ) → g < N.groups → c < N.stations → (group? N g && station? N c) ≡ true
+unfolding group? station?
+both-in N g c h k = and_both _ _ (lt-ltb g N.groups h) (lt-ltb c N.stations k)
+
 pub in_both : (N : Net) (g c : ℕ) → (group? N g && station? N c) ≡ true → (g < N.groups) × (c < N.stations)
 unfolding group? station?
 in_both N g c o = (ltb-true _ _ (and_l (ltb g N.groups) (ltb c N.stations) o), ltb-true _ _ (and_r (ltb g N.groups) (ltb c N.stations) o))

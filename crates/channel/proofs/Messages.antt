@@ -4,13 +4,15 @@ use mathlib.Core.Path.{◌≡◌, refl, ap, sym, ◌∙◌, subst}
 use mathlib.Core.List.{List, [], ◌∷◌, ◌++◌, map}
 use Prim.Native.Nat.{ℕ, zero, suc, ◌+◌, ◌-◌, ◌*◌, ◌^◌, ◌≤◌, ◌<◌}
 use native.Mathlib.Nat.{add-sub_cancel_left}
+use native.Mathlib.Numerals.{add-one}
 use native.Mathlib.Omega.{arith}
 use mathlib.Core.Bool.{Bool, true, false, not, ◌&&◌}
 use lib.Dec.{eqb}
 use borrow.Author.Tests.{ne_eqb}
 use Rattle.bits.specs.Below.{all_below}
 use Rattle.bits.proofs.Below.{all_first}
-use lib.ListN.{length, get_or, get_or-map}
+use lib.ListN.{length, take, get_or, get_or-map}
+use lib.Seq.{take-suc}
 use Rattle.bits.specs.Sums.{bit}
 use Rattle.bits.specs.Numbers.{Bytes, bytes, number, onto}
 use Rattle.bits.specs.Parts.{part, number_at, splice}
@@ -21,6 +23,7 @@ use Rattle.protocol.specs.Net.{capacity, remove_at}
 use Rattle.protocol.specs.Entries.{is_of, count_of}
 use Rattle.protocol.specs.Rules.{no_message}
 use Rattle.protocol.proofs.Laws.Maps.{map-append, map-remove_at}
+use Rattle.protocol.proofs.Laws.Messages.{count-snoc}
 use Rattle.layout.specs.Layout.{message_size, channel_size}
 use Rattle.channel.specs.Slots.{in_use, laid}
 use Rattle.channel.specs.Inner.Channels.{Queue}
@@ -79,6 +82,17 @@ module _ (b : List ℕ) (h : IsChannel b) where
 
   pub nth-message : (i : ℕ) → i < get_or b 0 0 → message_of (lent (1 + i * message_size) message_size b) ≡ get_or (messages_of b) i no_message
   nth-message i l = ap message_of (nth-part capacity message_size i b queue l) ∙ sym (get_or-map message_of (in_use message_size b) i []) ∙ ap (get_or (messages_of b) i) no-message
+
+-- ---- counting: one message more
+pub count_turn : (k g : ℕ) (ms : List Message) (i : ℕ) → i < length ms
+    → count_of k g (take (i + 1) ms) ≡ count_of k g (take i ms) + bit (is_of k g (get_or ms i no_message))
+count_turn k g ms i h = rw (add-one, take-suc ms i no_message h) (count-snoc k g (take i ms) (get_or ms i no_message))
+
+pub count-take : (k g i : ℕ) (ms : List Message) → count_of k g (take i ms) ≤ count_of k g ms
+unfolding count_of
+count-take k g zero ms = omega arith
+count-take k g (suc i) [] = omega arith
+count-take k g (suc i) (m ∷ ms) = omega (arith, count-take k g i ms)
 
 -- ---- counting: none of a kind and a group, where no message passes
 pub none-below : (k g : ℕ) (ms : List Message) (n : ℕ) → n ≡ length ms → all_below n (λ i. not (is_of k g (get_or ms i no_message))) ≡ eqb (count_of k g ms) 0

@@ -1,9 +1,10 @@
 -- Names in bytes.
-use Rattle.std.proofs.Common.{◌≡◌, refl, sym, ap, ◌∙◌, Bool, false, true, ◌&&◌, ℕ, suc, ◌+◌, ◌-◌, ◌<◌, List, [], ◌∷◌, eqb, add-one, arith}
+use Rattle.std.proofs.Common.{◌≡◌, ◌≢◌, refl, sym, ap, ◌∙◌, Bool, false, true, ◌&&◌, ℕ, suc, ◌+◌, ◌-◌, ◌<◌, List, [], ◌∷◌, length, eqb, add-one, arith}
+use Rattle.std.proofs.lemmas.Bool.{false_from_ne_true}
 use lib.Pointwise.{pointwise}
 use Rattle.protocol.specs.Net.{Net}
 use Rattle.protocol.specs.Names.{same_name, first_from, find}
-use Rattle.protocol.proofs.Finds.{first_step, first-here, first-end, find-hit, find-miss}
+use Rattle.protocol.proofs.Finds.{same-name, first_step, first-here, first-end, find-hit, find-miss}
 
 -- two slices of bytes are equal where they are one name
 pub same-bytes : (a b : List ℕ) → pointwise eqb a b ≡ same_name a b
@@ -13,6 +14,10 @@ same-bytes [] (y ∷ b) = refl
 same-bytes (x ∷ a) [] = refl
 same-bytes (x ∷ a) (y ∷ b) = ap (λ (t : Bool). eqb x y && t) (same-bytes a b)
 
+-- names of another length are not the same
+pub other_length : (a b : List ℕ) → length a ≢ length b → false ≡ same_name a b
+other_length a b n = sym (false_from_ne_true (same_name a b) (λ t. n (ap (length {A = ℕ}) (same-name a b t))))
+
 -- ---- the search: no group before g has the name
 module _ (N : Net) (w : List ℕ) where
   abbrev pub named : ℕ → Bool
@@ -21,6 +26,9 @@ module _ (N : Net) (w : List ℕ) where
   -- the search from g on finds what the search from 0 finds
   abbrev pub Still : ℕ → Type 0
   Still g = first_from named 0 N.groups ≡ first_from named g (N.groups - g)
+
+  pub still-start : Still 0
+  still-start = ap (first_from named 0) (omega arith)
 
   pub still-next : (g : ℕ) → g < N.groups → Still g → named g ≡ false → Still (g + 1)
   still-next g h s f =

@@ -3,6 +3,7 @@ pub mod Cells
 pub mod Names
 pub mod Plan
 pub mod Grids
+pub mod Turns
 pub mod Folds
 pub mod Tables
 pub mod Queues

@@ -1,7 +1,7 @@
 -- Laws of the bounded tests of bytes.
 --     zeros-at, zeros_of                            what the test of a stretch says, and when it passes
 --     zeros_fold, same_fold                         what the code of such a test does
---     table_at, table-rest, table_of                what the test of a table says, and when it passes
+--     table_done, table_at, table-rest, table_of    a loop over a table ends, what the test of a table says, and when it passes
 --     grid-rest, grid-of                            the same of a table of tables
 --     cell-used, cell_free                          the test of a cell that is used, and of one that is not
 --     cells_at, cells_rest, cells_of                what the test of a grid says, and when it passes
@@ -17,7 +17,7 @@ use lib.ListN.{length, get_or-eq_default}
 use borrow.Author.Tests.{eqb-true, eq-eqb, ltb-true, lt-ltb, le-ltb}
 use Rattle.bits.proofs.Cases.{by-lt, and_l, and_r, and_both}
 use Rattle.bits.specs.Below.{all_below}
-use Rattle.bits.proofs.Below.{all-at, all_of, all_fold}
+use Rattle.bits.proofs.Below.{all_done, all-at, all_of, all_fold}
 use Rattle.bits.specs.Parts.{part}
 use Rattle.bits.proofs.Parts.{lent, length_part, get_or-part, part-lent}
 use Rattle.std.specs.List.{fold, zip}
@@ -72,6 +72,12 @@ bytes-at l e i = by-lt i (length l)
     (λ h. let z : byte l i ≡ 0 = get_or-eq_default l 0 h in omega arith)
 
 -- ---- tables
+-- the end of a loop over the used records, with the test of the others
+pub table_done : (l : List ℕ) (at size most n : ℕ) (P : ℕ → Bool) {i : ℕ} {ok z : Bool} → i ≤ n → n ≤ i → ok ≡ all_below i P
+    → z ≡ zeros l (at + size * n) (at + size * most) → (ok && z) ≡ table l at size most n P
+unfolding table
+table_done l at size most n P h k e f = ap₂ ◌&&◌ (all_done P h k e) f
+
 module _ (l : List ℕ) (at size most n : ℕ) (P : ℕ → Bool) where
   pub table_at : table l at size most n P ≡ true → (k : ℕ) → k < n → P k ≡ true
   unfolding table

@@ -8,7 +8,7 @@ abbrev refusals : List Refusal
 refusals = NotANet ∷ NotAnAction ∷ BadOperand ∷ NotEnabled ∷ LastClock ∷ FullChannel ∷ NoSuchName ∷ NotOnTree ∷ NotAPlan ∷ WrongSize
     ∷ CutScript ∷ LongScript ∷ []
 
-abbrev by_number : ℕ → Refusal
+abbrev pub by_number : ℕ → Refusal
 by_number k = get_or refusals (k - 1) LongScript
 
 by_number-number : (r : Refusal) → by_number (number r) ≡ r

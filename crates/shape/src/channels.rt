@@ -47,23 +47,23 @@ fn channel_shaped(s: &[u8], at: usize, m: u16, g: usize, d: usize) -> bool
     bits::mask::has_at(m, d) & messages_shaped(s, at, g, usize::from(count))
 }
 
-fn channel_row_shaped(net: &[u8; NET_LENGTH], n: usize, g: usize, p: usize) -> bool
-    requires { (n ≤ most_stations) × (p < most_stations) }
-    ensures { result ≡ channel_row_shaped net.now n g p }
+fn channel_row_shaped(s: &[u8], n: usize, g: usize, p: usize) -> bool
+    requires { (net_length ≤ length s.now) × (n ≤ most_stations) × (p < most_stations) }
+    ensures { result ≡ channel_row_shaped s.now n g p }
 {
-    let front = Front { bytes: net };
+    let front = Front { bytes: s };
     let m = front.neighbours(p);
     let row = CHANNELS_AT + CHANNEL_ROW_SIZE * p;
     (0..n).fold(
         true,
-        |ok, d| ok & channel_shaped(net, channel_at(p, d), m, g, d),
-    ) & zeros(net, row + CHANNEL_SIZE * n, row + CHANNEL_ROW_SIZE)
+        |ok, d| ok & channel_shaped(s, channel_at(p, d), m, g, d),
+    ) & zeros(s, row + CHANNEL_SIZE * n, row + CHANNEL_ROW_SIZE)
 }
 
-pub fn channels_shaped(net: &[u8; NET_LENGTH], n: usize, g: usize) -> bool
-    requires { n ≤ most_stations }
-    ensures { result ≡ channels_shaped net.now n g }
+pub fn channels_shaped(s: &[u8], n: usize, g: usize) -> bool
+    requires { (net_length ≤ length s.now) × (n ≤ most_stations) }
+    ensures { result ≡ channels_shaped s.now n g }
 {
-    (0..n).all(|p| channel_row_shaped(net, n, g, p))
-        & zeros(net, CHANNELS_AT + CHANNEL_ROW_SIZE * n, NET_LENGTH)
+    (0..n).all(|p| channel_row_shaped(s, n, g, p))
+        & zeros(s, CHANNELS_AT + CHANNEL_ROW_SIZE * n, NET_LENGTH)
 }

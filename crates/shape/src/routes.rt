@@ -5,7 +5,7 @@ ghost use Rattle.layout.specs.Layout.{net_length};
 ghost use Rattle.shape.specs.Shape.{nil_or, route_shaped, route_row_shaped, routes_shaped};
 
 use layout::front::Front;
-use layout::offset::{ENTRIES_AT, NET_LENGTH, ROUTE_ROW_SIZE, ROUTES_AT, route_at};
+use layout::offset::{ENTRIES_AT, ROUTE_ROW_SIZE, ROUTES_AT, route_at};
 use layout::stretch::zeros;
 use protocol::NIL;
 
@@ -24,23 +24,20 @@ fn route_shaped(s: &[u8], at: usize, m: u16, p: usize, d: usize) -> bool
     nil_or(m, s[at]) & (!(p == d) | (s[at] == NIL))
 }
 
-fn route_row_shaped(net: &[u8; NET_LENGTH], n: usize, p: usize) -> bool
-    requires { (n ≤ most_stations) × (p < most_stations) }
-    ensures { result ≡ route_row_shaped net.now n p }
+fn route_row_shaped(s: &[u8], n: usize, p: usize) -> bool
+    requires { (net_length ≤ length s.now) × (n ≤ most_stations) × (p < most_stations) }
+    ensures { result ≡ route_row_shaped s.now n p }
 {
-    let front = Front { bytes: net };
+    let front = Front { bytes: s };
     let m = front.neighbours(p);
     let row = ROUTES_AT + ROUTE_ROW_SIZE * p;
-    (0..n).fold(
-        true,
-        |ok, d| ok & route_shaped(net, route_at(p, d), m, p, d),
-    ) & zeros(net, row + n, row + ROUTE_ROW_SIZE)
+    (0..n).fold(true, |ok, d| ok & route_shaped(s, route_at(p, d), m, p, d))
+        & zeros(s, row + n, row + ROUTE_ROW_SIZE)
 }
 
-pub fn routes_shaped(net: &[u8; NET_LENGTH], n: usize) -> bool
-    requires { n ≤ most_stations }
-    ensures { result ≡ routes_shaped net.now n }
+pub fn routes_shaped(s: &[u8], n: usize) -> bool
+    requires { (net_length ≤ length s.now) × (n ≤ most_stations) }
+    ensures { result ≡ routes_shaped s.now n }
 {
-    (0..n).all(|p| route_row_shaped(net, n, p))
-        & zeros(net, ROUTES_AT + ROUTE_ROW_SIZE * n, ENTRIES_AT)
+    (0..n).all(|p| route_row_shaped(s, n, p)) & zeros(s, ROUTES_AT + ROUTE_ROW_SIZE * n, ENTRIES_AT)
 }

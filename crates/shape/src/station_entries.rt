@@ -9,7 +9,7 @@ use crate::routes::nil_or;
 use bits::number::get;
 use layout::form::{Mark, entry_at};
 use layout::front::Front;
-use layout::offset::{ENTRY_SIZE, NET_LENGTH};
+use layout::offset::ENTRY_SIZE;
 use layout::stretch::zeros;
 use protocol::{MOST_GROUPS, MOST_STATIONS, NIL};
 
@@ -40,35 +40,29 @@ fn entry_shaped(s: &[u8], at: usize, m: u16, r: usize, p: usize) -> bool
 }
 
 // The cell of group k and station p, where n stations and g groups are used.
-fn entry_cell_shaped(
-    net: &[u8; NET_LENGTH],
-    m: Mark,
-    n: usize,
-    g: usize,
-    k: usize,
-    p: usize,
-) -> bool
-    requires { (k < most_groups) × (p < most_stations) }
-    ensures { result ≡ entry_cell_shaped net.now n m g k p }
+fn entry_cell_shaped(s: &[u8], m: Mark, n: usize, g: usize, k: usize, p: usize) -> bool
+    requires { (net_length ≤ length s.now) × (k < most_groups) × (p < most_stations) }
+    ensures { result ≡ entry_cell_shaped s.now n m g k p }
 {
-    let front = Front { bytes: net };
+    let front = Front { bytes: s };
     let at = entry_at(m, k, p);
     if (k < g) & (p < n) {
-        entry_shaped(net, at, front.neighbours(p), usize::from(front.root(k)), p)
+        entry_shaped(s, at, front.neighbours(p), usize::from(front.root(k)), p)
     } else {
-        zeros(net, at, at + ENTRY_SIZE)
+        zeros(s, at, at + ENTRY_SIZE)
     }
 }
 
-fn group_entries_shaped(net: &[u8; NET_LENGTH], m: Mark, n: usize, g: usize, k: usize) -> bool
-    requires { k < most_groups }
-    ensures { result ≡ all_below most_stations (entry_cell_shaped net.now n m g k) }
+fn group_entries_shaped(s: &[u8], m: Mark, n: usize, g: usize, k: usize) -> bool
+    requires { (net_length ≤ length s.now) × (k < most_groups) }
+    ensures { result ≡ all_below most_stations (entry_cell_shaped s.now n m g k) }
 {
-    (0..MOST_STATIONS).fold(true, |ok, p| ok & entry_cell_shaped(net, m, n, g, k, p))
+    (0..MOST_STATIONS).fold(true, |ok, p| ok & entry_cell_shaped(s, m, n, g, k, p))
 }
 
-pub fn entries_shaped(net: &[u8; NET_LENGTH], m: Mark, n: usize, g: usize) -> bool
-    ensures { result ≡ entries_shaped net.now n m g }
+pub fn entries_shaped(s: &[u8], m: Mark, n: usize, g: usize) -> bool
+    requires { net_length ≤ length s.now }
+    ensures { result ≡ entries_shaped s.now n m g }
 {
-    (0..MOST_GROUPS).all(|k| group_entries_shaped(net, m, n, g, k))
+    (0..MOST_GROUPS).all(|k| group_entries_shaped(s, m, n, g, k))
 }

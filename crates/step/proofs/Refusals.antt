@@ -9,6 +9,18 @@ use Rattle.protocol.specs.Rules.{Rule}
 use Rattle.protocol.specs.Steps.{verdict, action?, rule, outcome}
 
 module _ (R : Rule Net) where
+  pub is-3 : R.operands ≡ false → 3 ≡ verdict R
+  unfolding verdict
+  is-3 a = rw a refl
+
+  pub is-4 : R.operands ≡ true → R.enabled ≡ false → 4 ≡ verdict R
+  unfolding verdict
+  is-4 a b = rw (a, b) refl
+
+  pub is-6 : R.operands ≡ true → R.enabled ≡ true → R.clock_room ≡ true → verdict R ≢ 0 → 6 ≡ verdict R
+  unfolding verdict
+  is-6 a b c n = by_bool R.send_room (λ t. absurd (n (rw (a, b, c, t) refl))) (λ f. rw (a, b, c, f) refl)
+
   -- of a rule that needs no room, and of one that is always enabled and sends nothing
   pub is-3-or-4 : R.clock_room ≡ true → R.send_room ≡ true → verdict R ≢ 0 → cond R.operands 4 3 ≡ verdict R
   unfolding verdict

@@ -7,4 +7,4 @@ use Rattle.shape.proofs.channels.channel_row_shaped.Goals as goal
 
 pub returns : goal.returns
 unfolding table
-returns c = let a = c.args in ap₂ ◌&&◌ (fold_is _ (λ d. channel_shaped (neighbours a.net.now a.p) a.g d a.net.now (channel_at a.p d)) _ a.n (λ ok i b f' k. search rules) _ refl _ c.fold.ensures.ran) (c.zeros.ensures)
+returns c = let a = c.args in ap₂ ◌&&◌ (fold_is _ (λ d. channel_shaped (neighbours a.s.now a.p) a.g d a.s.now (channel_at a.p d)) _ a.n (λ ok i b f' k. search rules) _ refl _ c.fold.ensures.ran) (c.zeros.ensures)

@@ -6,4 +6,4 @@ use Rattle.shape.proofs.channels.channels_shaped.Goals as goal
 
 pub returns : goal.returns
 unfolding channels_shaped table
-returns c = let a = c.args in ap₂ ◌&&◌ (all_is _ (channel_row_shaped a.net.now a.n a.g) _ a.n (λ i b f' k. search rules) _ _ refl _ c.all.ensures.ran) (c.zeros.ensures)
+returns c = let a = c.args in ap₂ ◌&&◌ (all_is _ (channel_row_shaped a.s.now a.n a.g) _ a.n (λ i b f' k. search rules) _ _ refl _ c.all.ensures.ran) (c.zeros.ensures)

@@ -8,4 +8,4 @@ use Rattle.shape.proofs.routes.route_row_shaped.Goals as goal
 
 pub returns : goal.returns
 unfolding table
-returns c = let a = c.args in ap₂ ◌&&◌ (fold_is _ (λ d. route_shaped (neighbours a.net.now a.p) a.p d a.net.now (route_at a.p d)) _ a.n (λ ok i b f' k. search rules) _ refl _ c.fold.ensures.ran) (simp one-mul c.zeros.ensures)
+returns c = let a = c.args in ap₂ ◌&&◌ (fold_is _ (λ d. route_shaped (neighbours a.s.now a.p) a.p d a.s.now (route_at a.p d)) _ a.n (λ ok i b f' k. search rules) _ refl _ c.fold.ensures.ran) (simp one-mul c.zeros.ensures)

@@ -6,4 +6,4 @@ use Rattle.shape.proofs.routes.routes_shaped.Goals as goal
 
 pub returns : goal.returns
 unfolding routes_shaped table
-returns c = let a = c.args in ap₂ ◌&&◌ (all_is _ (route_row_shaped a.net.now a.n) _ a.n (λ i b f' k. search rules) _ _ refl _ c.all.ensures.ran) (c.zeros.ensures)
+returns c = let a = c.args in ap₂ ◌&&◌ (all_is _ (route_row_shaped a.s.now a.n) _ a.n (λ i b f' k. search rules) _ _ refl _ c.all.ensures.ran) (c.zeros.ensures)

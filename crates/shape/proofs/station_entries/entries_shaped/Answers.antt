@@ -8,4 +8,4 @@ use Rattle.shape.proofs.station_entries.entries_shaped.Goals as goal
 
 pub returns : goal.returns
 unfolding entries_shaped grid_pass
-returns c = let a = c.args in all_is _ (λ k. all_below most_stations (entry_cell_shaped a.net.now a.n a.m a.g k)) _ most_groups (λ i b f' k. search rules) _ _ refl _ c.all.ensures.ran
+returns c = let a = c.args in all_is _ (λ k. all_below most_stations (entry_cell_shaped a.s.now a.n a.m a.g k)) _ most_groups (λ i b f' k. search rules) _ _ refl _ c.all.ensures.ran

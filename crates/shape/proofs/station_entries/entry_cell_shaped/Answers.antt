@@ -13,13 +13,13 @@ returns-then-k-g c =
     let a = c.args in
     let root = c.from.ensures ∙ c.root.ensures in
     c.entry_shaped.ensures
-    ∙ (λ i. entry_shaped (c.neighbours.ensures i) (root i) a.p a.net.now (c.entry_at-at.ensures.0 i))
-    ∙ sym (cell-used a.net.now (entry_at a.m) entry_size most_groups most_stations a.g a.n (entry_shaped_at a.net.now a.n a.m) a.k a.p c.if-k-g.true)
+    ∙ (λ i. entry_shaped (c.neighbours.ensures i) (root i) a.p a.s.now (c.entry_at-at.ensures.0 i))
+    ∙ sym (cell-used a.s.now (entry_at a.m) entry_size most_groups most_stations a.g a.n (entry_shaped_at a.s.now a.n a.m) a.k a.p c.if-k-g.true)
 
 pub returns-else-k-g : goal.returns-else-k-g
 unfolding used
 returns-else-k-g c =
     let a = c.args in
     let at = c.entry_at-at.ensures.0 in
-    c.zeros.ensures ∙ (λ i. zeros a.net.now (at i) (at i + entry_size))
-    ∙ sym (cell_free a.net.now (entry_at a.m) entry_size most_groups most_stations a.g a.n (entry_shaped_at a.net.now a.n a.m) a.k a.p c.if-k-g.false)
+    c.zeros.ensures ∙ (λ i. zeros a.s.now (at i) (at i + entry_size))
+    ∙ sym (cell_free a.s.now (entry_at a.m) entry_size most_groups most_stations a.g a.n (entry_shaped_at a.s.now a.n a.m) a.k a.p c.if-k-g.false)
