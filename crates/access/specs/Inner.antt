@@ -1,3 +1,4 @@
 -- What only inner contracts need.
 pub mod Nets
 pub mod Fields
+pub mod Seen

@@ -1,3 +1,2 @@
 -- What reading and changing a net's bytes asks of them.
 pub mod Inner
-pub mod Seen

@@ -5,7 +5,7 @@ ghost use Rattle.bits.specs.Numbers.{bytes};
 ghost use Rattle.bits.specs.Parts.{splice};
 ghost use Rattle.protocol.specs.Net.{Net, most_groups, most_stations, capacity, set_route, send, take_at};
 ghost use Rattle.protocol.specs.Entries.{with_parents, with_member, with_clock, with_children, with_waiting};
-ghost use Rattle.layout.specs.Layout.{entry_size, net_length};
+ghost use Rattle.layout.specs.Layout.{entry_size};
 ghost use Rattle.layout.specs.Marks.{entry_at};
 ghost use Rattle.net.specs.View.{view};
 ghost use Rattle.net.specs.Encode.{entry_bytes, bytes_like};

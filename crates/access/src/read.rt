@@ -61,7 +61,7 @@ pub fn entry_place(m: Mark, g: u8, p: u8) -> usize
 }
 
 impl<'a> NetBytes<'a> {
-    ghost use Rattle.access.specs.Seen.{net_of};
+    ghost use Rattle.access.specs.Inner.Seen.{net_of};
 
     // A net in whatever form its byte 7 says.
     pub fn of(bytes: &'a [u8]) -> Self

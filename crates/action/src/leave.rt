@@ -1,8 +1,7 @@
 // A station that no longer joins leaves.
-ghost use Rattle.std.specs.Prelude.{◌≡◌, cond, ◌||◌, ◌<◌, eqb, length};
+ghost use Rattle.std.specs.Prelude.{◌≡◌, cond, ◌||◌, ◌<◌, eqb};
 ghost use Rattle.protocol.specs.Net.{most_groups, most_stations};
 ghost use Rattle.protocol.specs.Entries.{joins, leave};
-ghost use Rattle.layout.specs.Layout.{net_length};
 ghost use Rattle.access.specs.Inner.Nets.{EntryMade};
 
 use access::change::Whole;

@@ -1,7 +1,7 @@
 // The operands of each kind of action: whether they are in range, and what is known of them then.
 ghost use Rattle.std.specs.Prelude.{◌≡◌, true, ◌&&◌, ◌||◌, not, ◌<◌, eqb, ltb};
 ghost use Rattle.protocol.specs.Net.{capacity, nil, group?, station?, near?};
-ghost use Rattle.access.specs.Seen.{net_of};
+ghost use Rattle.access.specs.Inner.Seen.{net_of};
 
 use access::read::NetBytes;
 use protocol::{CAPACITY, NIL};

@@ -5,7 +5,7 @@ ghost use Rattle.std.specs.Prelude.{◌≡◌, ◌<◌, length};
 ghost use Rattle.tree.specs.Reach.{reach};
 ghost use Rattle.protocol.specs.Net.{Net};
 ghost use Rattle.protocol.specs.Calls.{tree_of, reach_list};
-ghost use Rattle.access.specs.Seen.{net_of};
+ghost use Rattle.access.specs.Inner.Seen.{net_of};
 ghost use Rattle.visit.specs.Lists.{reach_bytes, list_length};
 ghost use Rattle.call.specs.Answers.{CallEnd};
 

@@ -4,7 +4,7 @@
 ghost use Rattle.std.specs.Prelude.{◌≡◌, ◌<◌};
 ghost use Rattle.protocol.specs.Net.{Net};
 ghost use Rattle.protocol.specs.Names as names;
-ghost use Rattle.access.specs.Seen.{net_of};
+ghost use Rattle.access.specs.Inner.Seen.{net_of};
 ghost use Rattle.find.specs.Answers.{found_of, found_in};
 
 use access::read::NetBytes;

@@ -5,7 +5,7 @@ ghost use Rattle.std.specs.Prelude.{◌≡◌, ◌≤◌, length};
 ghost use Rattle.protocol.specs.Net.{most_stations, most_groups};
 ghost use Rattle.protocol.specs.Refusals.{outcome_of};
 ghost use Rattle.protocol.specs.Fresh.{blank};
-ghost use Rattle.layout.specs.Layout.{net_length, plan_length, stations, groups};
+ghost use Rattle.layout.specs.Layout.{plan_length, stations, groups};
 ghost use Rattle.fresh.specs.Fresh.{fresh_outcome, net_after_fresh};
 ghost use Rattle.fresh.specs.Inner.Laying.{route_nil, entry_blank, laid};
 

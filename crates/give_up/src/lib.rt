@@ -7,7 +7,7 @@ ghost use Rattle.protocol.specs.Rules as rule;
 ghost use Rattle.layout.specs.Marks.{mark_of};
 ghost use Rattle.net.specs.View.{view};
 ghost use Rattle.access.specs.Inner.Nets.{IsNet};
-ghost use Rattle.access.specs.Seen.{net_of};
+ghost use Rattle.access.specs.Inner.Seen.{net_of};
 ghost use Rattle.action.specs.Inner.Ends.{ActionEnd};
 
 use access::change::Whole;

@@ -4,7 +4,7 @@ ghost use Rattle.protocol.specs.Refusals.{number};
 ghost use Rattle.protocol.specs.Net.{Net, in_channels};
 ghost use Rattle.net.specs.View.{view};
 ghost use Rattle.access.specs.Inner.Nets.{IsNet};
-ghost use Rattle.access.specs.Seen.{net_of};
+ghost use Rattle.access.specs.Inner.Seen.{net_of};
 ghost use Rattle.text.specs.Inner.Within.{WroteWithin};
 ghost use Rattle.text.specs.Inner.Added.{Added};
 ghost use Rattle.listing.specs.Lines.{run_line, replies_line, station_line, station_lines, group_line, group_texts, listing, refused_text};

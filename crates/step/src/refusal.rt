@@ -5,7 +5,7 @@ ghost use Rattle.std.specs.Prelude.{◌≡◌, ◌≢◌, cond};
 ghost use Rattle.protocol.specs.Refusals.{number};
 ghost use Rattle.protocol.specs.Rules as rule;
 ghost use Rattle.protocol.specs.Steps.{verdict, outcome};
-ghost use Rattle.access.specs.Seen.{net_of};
+ghost use Rattle.access.specs.Inner.Seen.{net_of};
 
 use access::read::NetBytes;
 use action::operands::{of_cable, of_flag, of_group, of_pair, of_position, of_route, of_station};

@@ -6,7 +6,7 @@ ghost use Rattle.bits.specs.Parts.{splice, Wrote};
 ghost use Rattle.tree.specs.Tree.{agreed, on_tree};
 ghost use Rattle.protocol.specs.Net.{Net};
 ghost use Rattle.protocol.specs.Calls.{tree_of};
-ghost use Rattle.access.specs.Seen.{net_of};
+ghost use Rattle.access.specs.Inner.Seen.{net_of};
 ghost use Rattle.visit.specs.Inner.Visits.{station_bytes, children_bytes, MayVisit};
 
 use access::read::NetBytes;

@@ -1,7 +1,7 @@
 use Rattle.std.proofs.Common.{◌≡◌, true, arith}
 use Rattle.std.proofs.lemmas.Result.{err_from_is_err_and}
 use Rattle.shape.specs.Shape.{shaped}
-use Rattle.access.specs.Seen.{net_of}
+use Rattle.access.specs.Inner.Seen.{net_of}
 use Rattle.call.proofs.Ends.{in_both, copies, ends-1, ends-3, ends-10, ends-8, ends-0}
 use Rattle.call.proofs.call.Goals as goal
 

@@ -1,7 +1,7 @@
 use Rattle.std.proofs.Common.{◌≡◌, eqb, not, ◌&&◌, true, false}
 use Rattle.bits.specs.Masks.{has}
 use Rattle.protocol.specs.Rules as rule
-use Rattle.access.specs.Seen.{net_of}
+use Rattle.access.specs.Inner.Seen.{net_of}
 use Rattle.drop_child.proofs.may_drop.Goals as goal
 
 pub returns-then-has_at-child : goal.returns-then-has_at-child

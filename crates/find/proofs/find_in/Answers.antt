@@ -1,5 +1,5 @@
 use Rattle.std.proofs.Common.{sym, ◌∙◌, arith}
-use Rattle.access.specs.Seen.{net_of}
+use Rattle.access.specs.Inner.Seen.{net_of}
 use Rattle.find.proofs.Names.{still-next, still-hit, still-miss}
 use Rattle.find.proofs.find_in.Goals as goal
 

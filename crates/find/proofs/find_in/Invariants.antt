@@ -1,4 +1,4 @@
-use Rattle.access.specs.Seen.{net_of}
+use Rattle.access.specs.Inner.Seen.{net_of}
 use Rattle.find.proofs.Names.{Still}
 use Rattle.find.proofs.find_in.Given as goal
 

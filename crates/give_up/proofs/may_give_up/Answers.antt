@@ -1,7 +1,7 @@
 use Rattle.std.proofs.Common.{◌≡◌, sym, ◌∙◌, true, false}
 use Rattle.bits.specs.Masks.{has}
 use Rattle.protocol.specs.Rules as rule
-use Rattle.access.specs.Seen.{net_of}
+use Rattle.access.specs.Inner.Seen.{net_of}
 use Rattle.give_up.proofs.may_give_up.Goals as goal
 
 pub returns-then-has_at : goal.returns-then-has_at

@@ -1,7 +1,7 @@
 use Rattle.std.proofs.Common.{◌≡◌, ◌<◌, ◌-◌}
 use Rattle.tree.specs.Tree.{climbs, on_tree}
 use Rattle.protocol.specs.Calls.{tree_of}
-use Rattle.access.specs.Seen.{net_of}
+use Rattle.access.specs.Inner.Seen.{net_of}
 use Rattle.visit.proofs.on_tree.Given as goal
 
 -- the chain from c goes on from x, with so many hops left

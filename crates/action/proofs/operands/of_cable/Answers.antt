@@ -1,5 +1,5 @@
 use Rattle.std.proofs.Common.{eqb}
-use Rattle.access.specs.Seen.{net_of}
+use Rattle.access.specs.Inner.Seen.{net_of}
 use Rattle.action.proofs.InRange.{cable-in}
 use Rattle.net.proofs.Forms.{seen}
 use Rattle.action.proofs.operands.of_cable.Goals as goal

@@ -1,5 +1,5 @@
 use Rattle.std.proofs.Common.{ltb}
-use Rattle.access.specs.Seen.{net_of}
+use Rattle.access.specs.Inner.Seen.{net_of}
 use Rattle.action.proofs.InRange.{station-in}
 use Rattle.action.proofs.operands.of_flag.Goals as goal
 

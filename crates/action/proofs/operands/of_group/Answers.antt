@@ -1,4 +1,4 @@
-use Rattle.access.specs.Seen.{net_of}
+use Rattle.access.specs.Inner.Seen.{net_of}
 use Rattle.action.proofs.InRange.{group-in}
 use Rattle.action.proofs.operands.of_group.Goals as goal
 

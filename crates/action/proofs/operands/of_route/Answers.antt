@@ -1,5 +1,5 @@
 use Rattle.std.proofs.Common.{eqb, not}
-use Rattle.access.specs.Seen.{net_of}
+use Rattle.access.specs.Inner.Seen.{net_of}
 use Rattle.action.proofs.InRange.{stations-in}
 use Rattle.action.proofs.operands.of_route.Goals as goal
 

@@ -1,6 +1,6 @@
 use Rattle.std.proofs.Common.{◌≡◌, ◌-◌, arith}
 use Rattle.protocol.specs.Net.{in_channels}
-use Rattle.access.specs.Seen.{net_of}
+use Rattle.access.specs.Inner.Seen.{net_of}
 use Rattle.text.proofs.Adds.{◌then◌}
 use Rattle.listing.specs.Lines.{listing}
 use Rattle.listing.proofs.lines.add_listing.Goals as goal

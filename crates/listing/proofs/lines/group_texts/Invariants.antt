@@ -1,5 +1,5 @@
 use Rattle.std.proofs.Common.{◌*◌}
-use Rattle.access.specs.Seen.{net_of}
+use Rattle.access.specs.Inner.Seen.{net_of}
 use Rattle.text.specs.Text.{each}
 use Rattle.text.specs.Inner.Added.{Added}
 use Rattle.listing.specs.Lines.{group_text}

@@ -1,4 +1,4 @@
-use Rattle.access.specs.Seen.{net_of}
+use Rattle.access.specs.Inner.Seen.{net_of}
 use Rattle.net.proofs.Forms.{seen}
 use Rattle.action.proofs.InRange.{parent-small}
 use Rattle.step.proofs.refusal.of_refresh.Goals as goal

@@ -4,7 +4,7 @@ use Rattle.protocol.specs.Net.{Net}
 use Rattle.protocol.specs.Rules.{Rule, rules}
 use Rattle.protocol.specs.Rules as book
 use Rattle.protocol.specs.Steps.{verdict, action?, rule, outcome}
-use Rattle.access.specs.Seen.{net_of}
+use Rattle.access.specs.Inner.Seen.{net_of}
 use Rattle.script.proofs.Ends.{no-action}
 use Rattle.step.proofs.Refusals.{is-3-or-4, is-3-or-5, of-action, none-such}
 use Rattle.step.proofs.refusal.refusal.Goals as goal
