@@ -35,8 +35,8 @@ impl Cell for Entries<'_> {
     }
 }
 
-// Every byte of a net, one after the other: copied by the library, so many would be a call of the C library, of which the archive for C is to
-// need no more than it did.
+// Every byte of a net, one after the other: the library's copy of so many is a call of `memmove`, and of what is outside the archive for C
+// needs `memset` alone (docs/DECISIONS.md, 33).
 fn copy(net: &[u8], out: &mut [u8; NET_LENGTH])
     requires { length net.now ≡ net_length }
     ensures { out.new ≡ net.now }

@@ -32,7 +32,9 @@ fn case_counted(r: Replies) -> Option<Case>
 }
 
 // A step of any bytes, which are to be a net in the form of this mark: the case of the reply that it heard, if it heard one. An action and
-// its operands are four numbers, as C has them and as the rules take them (`rule`, `outcome`).
+// its operands are four numbers, as C has them and as the rules take them (`rule`, `outcome`). Compiled into its callers it need not hand its
+// answer on through memory, by which a net that is refused at its first bytes took a quarter longer.
+#[inline(always)]
 pub fn step_as(
     net: &mut [u8],
     m: Mark,
