@@ -28,7 +28,7 @@ pub within-as : {o o' : List ℕ} {i r k : ℕ} {xs ys : List ℕ} → xs ≡ ys
 within-as {o} {o'} {i} {r} {k} e W = subst (λ (zs : List ℕ). WroteWithin k o o' i r zs) e W
 
 -- ---- the code asks whether anything stands there by asking whether the place has moved
-pub some-put : (start at : ℕ) (xs : List ℕ) → at ≡ start + length xs → ltb start at ≡ some xs
+some-put : (start at : ℕ) (xs : List ℕ) → at ≡ start + length xs → ltb start at ≡ some xs
 unfolding some
 some-put start at [] e = le-ltb start at (omega arith)
 some-put start at (b ∷ bs) e = lt-ltb start at (omega arith)
